@@ -1,4 +1,7 @@
 // Reads a submission from standard input and writes one line: whether it is well-formed.
+ghost use Prim.Native.Nat.{_≤_};
+ghost use lib.ListN.{length};
+ghost use Rattle.std.specs.Vec.{made};
 use report::DECIDING_BYTES;
 use report::LONGEST_LINE;
 use report::answer;
@@ -7,7 +10,9 @@ use std::io::Read;
 use std::io::Write;
 
 // Fills the buffer from the input as far as the input goes; answers how many bytes that is.
-fn fill(input: &mut impl Read, buffer: &mut [u8]) -> io::Result<usize> {
+fn fill(input: &mut impl Read, buffer: &mut [u8]) -> io::Result<usize>
+    ensures { λ r. ⌜ made r (λ n. n ≤ length (now (buffer .entry))) ⌝ }
+{
     let mut count = 0;
     while count < buffer.len() {
         let more = input.read(&mut buffer[count..])?;

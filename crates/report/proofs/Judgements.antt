@@ -45,12 +45,15 @@ decided bs (WellFormed n) j rest h =
     absurd (omega (arith, j .0 .0, submission-short (wholeWords bs) (j .0 .1), length-words bs))
 decided bs (Refused e) (p, is, b) rest h =
     let w = words-front bs rest in
-    let long = length-words (bs ++ rest) in
-    (p, is, record {
-      none = λ a. omega (arith, a .0, submission-short (wholeWords (bs ++ rest)) (a .1), length-append bs rest);
-      from = b .from;
-      sound = subst (λ ws. Sound ws (p - 1)) (sym (w .1)) (sound-front (wholeWords bs) (w .0) (p - 1) (inl (omega (arith, length-words bs))) (b .sound));
-    })
+    let long = length-words (bs ++ rest) in (
+      p,
+      is,
+      record {
+        none = λ a. omega (arith, a .0, submission-short (wholeWords (bs ++ rest)) (a .1), length-append bs rest);
+        from = b .from;
+        sound = subst (λ ws. Sound ws (p - 1)) (sym (w .1)) (sound-front (wholeWords bs) (w .0) (p - 1) (inl (omega (arith, length-words bs))) (b .sound));
+      },
+    )
 
 -- a verdict, which 521 bytes decide
 pub record Given (bs : List ℕ) (v : Verdict) : Type 0 where
@@ -78,22 +81,30 @@ module _ (bs : List ℕ) (n : ℕ) (within : n ≤ length bs / 4) (enough : (130
   whole s = take-all n ws (⊎-elim (λ h. omega (arith, submission-short ws s)) (λ h. omega (arith, length-words bs)) enough)
 
   pub broken-early : (e : Refusal) → RefusedForm (take n ws) e → Given bs (Refused e)
-  broken-early e (p, is, b) = given bs (Refused e) (p, is, record {
-    none = λ a. b .none (subst Submission (sym (whole (a .1))) (a .1));
-    from = b .from;
-    sound = front-sound (p - 1) (b .sound);
-  })
+  broken-early e (p, is, b) = given bs (Refused e) (
+    p,
+    is,
+    record {
+      none = λ a. b .none (subst Submission (sym (whole (a .1))) (a .1));
+      from = b .from;
+      sound = front-sound (p - 1) (b .sound);
+    },
+  )
 
   pub broken-late : Submission (take n ws) → 4 * n < length bs → Given bs (Refused (Form (n + 1)))
-  broken-late s more = given bs (Refused (Form (n + 1))) (n + 1, refl, record {
-    none = λ a. ⊎-elim (λ h. omega (arith, a .0, submission-short ws (a .1), length-words bs)) (λ h. omega (arith, a .0)) enough;
-    from = omega arith;
-    sound = front-sound (n + 1 - 1) (record {
-      within = omega (arith, long);
-      begins = (s .0, [], s .1, sym (s .2) ∙ sym (take-all (n + 1 - 1) (take n ws) (omega (arith, long))) ∙ sym (append-nil (take (n + 1 - 1) (take n ws))));
-      longest = λ k le b. omega (arith, long);
-    });
-  })
+  broken-late s more = given bs (Refused (Form (n + 1))) (
+    n + 1,
+    refl,
+    record {
+      none = λ a. ⊎-elim (λ h. omega (arith, a .0, submission-short ws (a .1), length-words bs)) (λ h. omega (arith, a .0)) enough;
+      from = omega arith;
+      sound = front-sound (n + 1 - 1) (record {
+        within = omega (arith, long);
+        begins = (s .0, [], s .1, sym (s .2) ∙ sym (take-all (n + 1 - 1) (take n ws) (omega (arith, long))) ∙ sym (append-nil (take (n + 1 - 1) (take n ws))));
+        longest = λ k le b. omega (arith, long);
+      });
+    },
+  )
 
   pub well-formed : Submission (take n ws) → length bs ≤ 4 * n → (k : ℕ) → k ≡ length (decode (take n ws)) → Given bs (WellFormed k)
   well-formed s all k e =

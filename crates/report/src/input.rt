@@ -34,7 +34,9 @@ fn judge_words(words: &[u32]) -> Verdict
     ensures { λ r. ⌜ WordsJudged (now (words .entry)) r ⌝ }
 {
     match Reader::open(words) {
-        Ok(reader) => Verdict::WellFormed { lines: reader.lines_left() },
+        Ok(reader) => Verdict::WellFormed {
+            lines: reader.lines_left(),
+        },
         Err(refusal) => Verdict::Refused { refusal },
     }
 }
@@ -48,7 +50,9 @@ pub fn judge(bytes: &[u8]) -> Verdict
     let count = read_words(bytes, &mut words);
     match judge_words(&words[0..count]) {
         Verdict::WellFormed { lines } if bytes.len() <= 4 * count => Verdict::WellFormed { lines },
-        Verdict::WellFormed { lines: _ } => Verdict::Refused { refusal: Refusal::Form { place: count + 1 } },
+        Verdict::WellFormed { lines: _ } => Verdict::Refused {
+            refusal: Refusal::Form { place: count + 1 },
+        },
         Verdict::Refused { refusal } => Verdict::Refused { refusal },
     }
 }

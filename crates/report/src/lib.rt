@@ -4,6 +4,7 @@ ghost use mathlib.Core.Bool.{true};
 ghost use Prim.Native.Nat.{_≤_};
 ghost use lib.ListN.{length};
 ghost use Rattle.std.specs.Results.{isOk};
+ghost use Rattle.std.specs.Vec.{made};
 ghost use Rattle.report.specs.Answers.{Answered};
 use terms::Refusal;
 
@@ -23,6 +24,7 @@ pub use verdict::Verdict;
 pub fn answer(bytes: &[u8], out: &mut [u8]) -> Result<usize, Refusal>
     ensures answered { λ r. ⌜ Answered (now (bytes .entry)) (now (out .entry)) (now (out .exit)) r ⌝ }
     ensures room { λ r. ⌜ (128 ≤ length (now (out .entry)) → isOk r ≡ true) ⌝ }
+    ensures within { λ r. ⌜ made r (λ n. n ≤ length (now (out .exit))) ⌝ }
 {
     write_line(judge(bytes), out)
 }

@@ -13,7 +13,10 @@ impl Text {
         ensures text { λ r. ⌜ held r ≡ [] ⌝ }
         ensures len { λ r. ⌜ r .len ≡ 0 ⌝ }
     {
-        Text { bytes: [0; ROOM], len: 0 }
+        Text {
+            bytes: [0; ROOM],
+            len: 0,
+        }
     }
 
     // One byte more.

@@ -9,7 +9,7 @@ returns c =
     let f = c .args .fields in
     record {
       text = five-more (codes "refused") (spaced (f .number)) (spaced (f .place)) (spaced (f .month)) (spaced (f .limit)) (spaced (f .excess))
-        (begun (codes "refused") (c .new-text .ensures .text) (c .push-all .ensures .text))
-        (c .push-spaced .ensures .text) (c .push-spaced-2 .ensures .text) (c .push-spaced-3 .ensures .text) (c .push-spaced-4 .ensures .text) (c .push-spaced-5 .ensures .text);
+          (begun (codes "refused") (c .new-text .ensures .text) (c .push-all .ensures .text))
+          (c .push-spaced .ensures .text) (c .push-spaced-2 .ensures .text) (c .push-spaced-3 .ensures .text) (c .push-spaced-4 .ensures .text) (c .push-spaced-5 .ensures .text);
       room = omega arith;
     }

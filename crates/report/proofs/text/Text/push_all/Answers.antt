@@ -8,9 +8,10 @@ use Rattle.report.proofs.Figures.{then}
 use Rattle.report.proofs.text.Text.push_all.Needs as need
 
 pub loop-byte-again : need.loop-byte-again
-loop-byte-again c =
-    ( then (held (c .args .self .now)) (take (c .loop-byte .byte-index) (c .args .bytes .now)) (getD (c .args .bytes .now) (c .loop-byte .byte-index) 0 ∷ []) (c .loop-byte .inv .0) (c .push .ensures .text) ∙ ap (λ z. held (c .args .self .now) ++ z) (sym (take-more (c .args .bytes .now) (c .loop-byte .byte-index) _ (c .loop-byte-test .taken)))
-    , omega arith)
+loop-byte-again c = (
+  then (held (c .args .self .now)) (take (c .loop-byte .byte-index) (c .args .bytes .now)) (getD (c .args .bytes .now) (c .loop-byte .byte-index) 0 ∷ []) (c .loop-byte .inv .0) (c .push .ensures .text) ∙ ap (λ z. held (c .args .self .now) ++ z) (sym (take-more (c .args .bytes .now) (c .loop-byte .byte-index) _ (c .loop-byte-test .taken))),
+  omega arith,
+)
 
 pub returns : need.returns
 returns c = record {
