@@ -9,3 +9,6 @@ pub use line::Line;
 pub use reader::LineWords;
 pub use reader::Reader;
 pub use writer::write;
+
+#[cfg(test)]
+mod tests;
