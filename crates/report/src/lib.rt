@@ -26,5 +26,9 @@ pub fn answer(bytes: &[u8], out: &mut [u8]) -> Result<usize, Refusal>
     ensures room { λ r. ⌜ (128 ≤ length (now (out .entry)) → isOk r ≡ true) ⌝ }
     ensures within { λ r. ⌜ made r (λ n. n ≤ length (now (out .exit))) ⌝ }
 {
-    write_line(judge(bytes), out)
+    let verdict = judge(bytes);
+    write_line(verdict, out)
 }
+
+#[cfg(test)]
+mod tests;

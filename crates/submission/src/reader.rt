@@ -73,6 +73,7 @@ impl<'a> Reader<'a> {
     pub fn lines_left(&self) -> usize
         ensures { λ r. ⌜ r ≡ length (ahead (now (now (self .entry) .words)) (now (self .entry) .at)) ⌝ }
     {
-        self.words.len().saturating_sub(1).saturating_sub(self.at) / 8
+        let closing = self.words.len().saturating_sub(1);
+        closing.saturating_sub(self.at) / 8
     }
 }

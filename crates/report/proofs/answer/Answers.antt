@@ -24,7 +24,7 @@ pub returns : need.returns
 returns c =
     let p = c .write-line .ensures .line in
     record {
-      answered = record { verdict = c .judge .result; judged = c .judge .ensures .judged; decided = c .judge .ensures .decided; line = p };
+      answered = record { verdict = c .judge-verdict .result; judged = c .judge-verdict .ensures .judged; decided = c .judge-verdict .ensures .decided; line = p };
       room = room _ _ _ _ p (c .write-line .ensures .room);
       within = within _ _ _ _ p;
     }

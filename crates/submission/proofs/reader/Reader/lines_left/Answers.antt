@@ -7,5 +7,5 @@ use Rattle.submission.proofs.reader.Reader.lines_left.Needs as need
 
 pub returns : need.returns
 returns c =
-    let e : c .saturating-sub-2 .result / 8 ≡ (length (c .args .self .now .words .now) - 1 - c .args .self .now .at) / 8 = omega arith in
+    let e : c .saturating-sub .result / 8 ≡ (length (c .args .self .now .words .now) - 1 - c .args .self .now .at) / 8 = omega arith in
     e ∙ sym (length-linesOf _ _)
