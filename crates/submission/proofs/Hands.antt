@@ -50,18 +50,17 @@ module _ (ws : List ℕ) (at : ℕ) (room : at + 8 < length ws) where
       let e = getD-drop at ws i 0 in
       omega (arith, r .seam, s)
 
-  pub handed : Handed ws at (at + 8) (take 8 (drop at ws)) (at + 1)
-  handed =
-      let same = lineOf-eight (drop at ws) in
-      let back : Ready ws at → take 8 (drop at ws) ≡ wordsOf (lineOf (drop at ws)) = λ r. line-back (drop at ws) (omega (arith, length-drop at ws)) (kinds r) in
+  pub handed : (vs : List ℕ) (p : ℕ) → vs ≡ take 8 (drop at ws) → p ≡ at + 1 → Handed ws at (at + 8) vs p
+  handed vs p cut place =
+      let same : lineOf (drop at ws) ≡ lineOf vs = sym (lineOf-eight (drop at ws)) ∙ ap lineOf (sym cut) in
       let count : (length ws - 1 - at) / 8 ≡ suc ((length ws - 1 - (at + 8)) / 8) = omega arith in
       record {
-        words = refl;
-        place = refl;
+        words = cut;
+        place = place;
         on = refl;
-        line = ap (λ k. linesOf k (drop at ws)) count ∙ (λ i. sym same i ∷ linesOf ((length ws - 1 - (at + 8)) / 8) (drop-drop 8 at ws i));
+        line = ap (λ k. linesOf k (drop at ws)) count ∙ (λ i. same i ∷ linesOf ((length ws - 1 - (at + 8)) / 8) (drop-drop 8 at ws i));
         room = room;
-        same = λ r. back r ∙ ap wordsOf (sym same);
-        fits = λ r. line-fits (take 8 (drop at ws));
+        same = λ r. cut ∙ line-back (drop at ws) (omega (arith, length-drop at ws)) (kinds r) ∙ ap wordsOf same;
+        fits = λ r. line-fits vs;
         ready = λ r. record { whole = r .whole; seam = omega (arith, r .seam); inside = room };
       }

@@ -1,5 +1,6 @@
 ghost use mathlib.Core.Path.{_≡_};
-ghost use lib.ListN.{length};
+ghost use Prim.Native.Nat.{_+_, _-_, _/_, _≤_};
+ghost use lib.ListN.{length, take, drop};
 ghost use Rattle.std.specs.Options.{Cases as BySome};
 ghost use Rattle.std.specs.Results.{Cases};
 ghost use Rattle.submission.specs.Words.{lineOf};
@@ -63,17 +64,34 @@ impl<'a> Reader<'a> {
         if self.lines_left() == 0 {
             return None;
         }
-        let words = &self.words[self.at..self.at + 8];
-        let place = self.at + 1;
+        let line = self.line_here();
         self.at += 8;
-        Some(LineWords { words, place })
+        Some(line)
     }
 
     // How many lines are left.
     pub fn lines_left(&self) -> usize
         ensures { λ r. ⌜ r ≡ length (ahead (now (now (self .entry) .words)) (now (self .entry) .at)) ⌝ }
     {
-        let closing = self.words.len().saturating_sub(1);
-        closing.saturating_sub(self.at) / 8
+        whole_lines(self.words.len(), self.at)
     }
+
+    // The eight words from here on, with their place.
+    fn line_here(&self) -> LineWords<'a>
+        requires { ⌜ now self .at + 8 ≤ length (now (now self .words)) ⌝ }
+        ensures words { λ r. ⌜ now (r .words) ≡ take 8 (drop (now (self .entry) .at) (now (now (self .entry) .words))) ⌝ }
+        ensures place { λ r. ⌜ r .place ≡ now (self .entry) .at + 1 ⌝ }
+    {
+        let words = &self.words[self.at..self.at + 8];
+        let place = self.at + 1;
+        LineWords { words, place }
+    }
+}
+
+// How many lines stand from the index `at` to the closing word, the last of `words` words.
+fn whole_lines(words: usize, at: usize) -> usize
+    ensures { λ r. ⌜ r ≡ (words - 1 - at) / 8 ⌝ }
+{
+    let closing = words.saturating_sub(1);
+    closing.saturating_sub(at) / 8
 }
