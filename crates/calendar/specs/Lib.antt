@@ -1,0 +1,5 @@
+pub mod Kinds
+pub mod Rows
+pub mod Figures
+pub mod Calls
+pub mod Questions

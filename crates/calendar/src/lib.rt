@@ -1,0 +1,8 @@
+// The calendar: nodes with prices, transfer limits with monthly values and relation rows, and months.
+mod calendar;
+mod kinds;
+mod parts;
+
+pub use calendar::Calendar;
+pub use kinds::Direction;
+pub use kinds::LimitKind;
