@@ -3,3 +3,4 @@ pub mod Rows
 pub mod Figures
 pub mod Calls
 pub mod Questions
+pub mod Matrix

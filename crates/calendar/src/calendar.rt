@@ -12,6 +12,7 @@ use terms::Area;
 
 mod calls;
 mod doors;
+mod matrix;
 mod questions;
 
 // A place of injection or withdrawal, with its price in each month.

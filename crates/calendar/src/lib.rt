@@ -2,7 +2,9 @@
 mod calendar;
 mod kinds;
 mod parts;
+mod reference;
 
 pub use calendar::Calendar;
 pub use kinds::Direction;
 pub use kinds::LimitKind;
+pub use reference::Reference;
