@@ -1,7 +1,8 @@
 ghost use mathlib.Core.Path.{_≡_};
 ghost use Prim.Native.Nat.{_+_, _<_, _≤_};
 ghost use Rattle.std.specs.Results.{Cases};
-ghost use Rattle.calendar.specs.Figures.{figures, HasLimit, HasNode, IsMonth, limitCount, limitFigures, limitOf, monthFigures, monthOf, nodeCount, nodeFigures, nodeOf};
+ghost use Rattle.calendar.specs.Figures.{figures, HasLimit, HasNode, limitCount, limitFigures, limitOf, monthFigures, monthOf, nodeCount, nodeFigures, nodeOf};
+ghost use Rattle.calendar.specs.Values.{IsMonth};
 use super::Calendar;
 use super::Limit;
 use super::Month;
