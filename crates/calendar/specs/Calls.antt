@@ -30,14 +30,13 @@ changed (suc i) f (x ∷ xs) = x ∷ changed i f xs
 abbrev pub emptyFigures : Figures
 emptyFigures = record { nodes = []; limits = []; months = replicate 12 (record { hours = 0; payDay = 0 }) }
 
--- one more node, with no prices yet
-abbrev pub withNode : Figures → ℕ → Figures
-withNode f area =
-    record {
-      nodes = f .nodes ++ record { area = area; prices = replicate 12 (pos 0) } ∷ [];
-      limits = f .limits;
-      months = f .months;
-    }
+-- one more node
+abbrev pub withNode : Figures → NodeFigures → Figures
+withNode f node = record { nodes = f .nodes ++ node ∷ []; limits = f .limits; months = f .months }
+
+-- a node with no prices yet
+abbrev pub newNode : ℕ → NodeFigures
+newNode area = record { area = area; prices = replicate 12 (pos 0) }
 
 -- one more limit
 abbrev pub withLimit : Figures → LimitFigures → Figures
@@ -52,22 +51,20 @@ withPrice f node month price =
     record { nodes = changed node (repriced month price) (f .nodes); limits = f .limits; months = f .months }
 
 -- other hours of a month
+abbrev pub rehoured : ℕ → MonthFigures → MonthFigures
+rehoured hours m = record { hours = hours; payDay = m .payDay }
+
 abbrev pub withHours : Figures → ℕ → ℕ → Figures
 withHours f month hours =
-    record {
-      nodes = f .nodes;
-      limits = f .limits;
-      months = changed (month - 1) (λ m. record { hours = hours; payDay = m .payDay }) (f .months);
-    }
+    record { nodes = f .nodes; limits = f .limits; months = changed (month - 1) (rehoured hours) (f .months) }
 
 -- another pay day of a month
+abbrev pub redated : ℕ → MonthFigures → MonthFigures
+redated day m = record { hours = m .hours; payDay = day }
+
 abbrev pub withPayDay : Figures → ℕ → ℕ → Figures
 withPayDay f month day =
-    record {
-      nodes = f .nodes;
-      limits = f .limits;
-      months = changed (month - 1) (λ m. record { hours = m .hours; payDay = day }) (f .months);
-    }
+    record { nodes = f .nodes; limits = f .limits; months = changed (month - 1) (redated day) (f .months) }
 
 -- another row of a limit
 abbrev pub rerowed : ℕ → LimitFigures → LimitFigures
@@ -84,7 +81,7 @@ Refused e Fits Room = ((e ≡ CalendarValue) × (Fits → ⊥)) ⊎ ((e ≡ Cale
 
 abbrev pub AddsNode : Calendar → ℕ → Result ℕ Refusal → Calendar → Type 0
 AddsNode entry area (Ok node) exit =
-    IsArea area × (node ≡ nodeCount (figures entry)) × (node < most-nodes) × (figures exit ≡ withNode (figures entry) area)
+    IsArea area × (node ≡ nodeCount (figures entry)) × (node < most-nodes) × (figures exit ≡ withNode (figures entry) (newNode area))
 AddsNode entry area (Err e) exit = Refused e (IsArea area) (nodeCount (figures entry) < most-nodes) × (exit ≡ entry)
 
 abbrev pub PriceFits : Figures → ℕ → ℕ → ℤ → Type 0

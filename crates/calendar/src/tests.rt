@@ -11,8 +11,6 @@ const IMPORT: u32 = 2;
 
 const WHEELING: u32 = 3;
 
-const BEYOND: Result<(), Refusal> = Err(Refusal::CalendarValue);
-
 // A calendar with a node in area 1 and a wheeling limit of area 2.
 fn small() -> Result<Calendar, Refusal> {
     let mut calendar = Calendar::new();
@@ -33,25 +31,46 @@ fn mark_of(kind: u32, area: u32, flow: i32) -> Result<bool, Refusal> {
     calendar.mark(1, 1)
 }
 
+// What a call answers whose arguments fit, or do not.
+fn outcome(fits: bool) -> Result<(), Refusal> {
+    if fits {
+        Ok(())
+    } else {
+        Err(Refusal::CalendarValue)
+    }
+}
+
 #[test]
-fn bounds_are_kept() -> Result<(), Fail> {
-    let mut calendar = small()?;
-    check_eq(calendar.set_price(0, 1, -1_000_000), Ok(()))?;
-    check_eq(calendar.set_price(0, 12, 1_000_000), Ok(()))?;
-    check_eq(calendar.set_price(0, 12, 1_000_001), BEYOND)?;
-    check_eq(calendar.set_price(0, 12, -1_000_001), BEYOND)?;
-    check_eq(calendar.set_price(0, 13, 0), BEYOND)?;
-    check_eq(calendar.set_price(1, 1, 0), BEYOND)?;
-    check_eq(calendar.price(0, 12), Ok(1_000_000))?;
-    check_eq(calendar.set_hours(12, 744), Ok(()))?;
-    check_eq(calendar.set_hours(12, 745), BEYOND)?;
-    check_eq(calendar.set_pay_day(1, 1_000_000), Ok(()))?;
-    check_eq(calendar.set_pay_day(1, 1_000_001), BEYOND)?;
-    check_eq(calendar.set_relation(1, 0x3fff_ffff), Ok(()))?;
-    check_eq(calendar.set_relation(1, 0x4000_0000), BEYOND)?;
-    check_eq(calendar.set_relation(2, 0), BEYOND)?;
-    check_eq(calendar.mark(1, 29), Ok(true))?;
-    check_eq(calendar.mark(1, 30), Err(Refusal::CalendarValue))
+fn prices_have_bounds() -> Result<(), Fail> {
+    for (node, month, price, fits) in [
+        (0, 1, -1_000_000, true),
+        (0, 12, 1_000_000, true),
+        (0, 1, -1_000_001, false),
+        (0, 12, 1_000_001, false),
+        (0, 0, 0, false),
+        (0, 13, 0, false),
+        (1, 1, 0, false),
+    ] {
+        check_eq(small()?.set_price(node, month, price), outcome(fits))?;
+    }
+    Ok(())
+}
+
+#[test]
+fn months_and_rows_have_bounds() -> Result<(), Fail> {
+    // the number of a month and of a limit, then hours, a pay day and a row
+    for (number, hours, day, row, fits) in [
+        (1, 744, 1_000_000, 0x3fff_ffff, true),
+        (0, 745, 1_000_001, 0x4000_0000, false),
+        (13, u32::MAX, u32::MAX, u32::MAX, false),
+    ] {
+        check_eq(small()?.set_hours(number, 0), outcome(fits))?;
+        check_eq(small()?.set_hours(1, hours), outcome(fits))?;
+        check_eq(small()?.set_pay_day(1, day), outcome(fits))?;
+        check_eq(small()?.set_relation(number, 0), outcome(fits))?;
+        check_eq(small()?.set_relation(1, row), outcome(fits))?;
+    }
+    Ok(())
 }
 
 #[test]
@@ -117,6 +136,16 @@ fn flows_count_or_stray() -> Result<(), Fail> {
     check_eq(mark_of(IMPORT, 1, 100), Err(stray))
 }
 
+// The rows of two limits after a build.
+fn rows_built(
+    calendar: &mut Calendar,
+    references: &[Reference],
+    flows: &[i32],
+) -> Result<(u32, u32), Refusal> {
+    calendar.build_matrix(references, flows)?;
+    Ok((calendar.relation(1)?, calendar.relation(2)?))
+}
+
 #[test]
 fn a_second_build_clears_old_marks() -> Result<(), Fail> {
     let mut calendar = small()?;
@@ -129,21 +158,17 @@ fn a_second_build_clears_old_marks() -> Result<(), Fail> {
         injection: 3,
         withdrawal: 1,
     };
-    // two references of pair 1-3 and one of pair 3-1, which is number 10
-    calendar.build_matrix(&[there, back, there], &[99, 70, 100, 0, 250, -5])?;
-    check_eq(calendar.relation(1), Ok(1 << 1 | 1 << 10))?;
-    check_eq(calendar.relation(2), Ok(1 << 1))?;
-    check_eq(
-        calendar.build_matrix(&[there, back], &[0, 0, 0, 100]),
-        Err(Refusal::Stray { place: 2, limit: 2 }),
-    )?;
-    check_eq(
-        calendar.build_matrix(&[there], &[0]),
-        Err(Refusal::References),
-    )?;
-    check_eq(calendar.build_matrix(&[], &[]), Err(Refusal::References))?;
-    check_eq(calendar.relation(1), Ok(1 << 1 | 1 << 10))?;
-    calendar.build_matrix(&[back], &[100, 99])?;
-    check_eq(calendar.relation(1), Ok(1 << 10))?;
-    check_eq(calendar.relation(2), Ok(0))
+    // pair 1-3 has the number 1, pair 3-1 the number 10
+    let first = rows_built(
+        &mut calendar,
+        &[there, back, there],
+        &[99, 70, 100, 0, 250, -5],
+    );
+    check_eq(first, Ok((1 << 1 | 1 << 10, 1 << 1)))?;
+    let strayed = rows_built(&mut calendar, &[there, back], &[0, 0, 0, 100]);
+    check_eq(strayed, Err(Refusal::Stray { place: 2, limit: 2 }))?;
+    let short = rows_built(&mut calendar, &[there], &[0]);
+    check_eq(short, Err(Refusal::References))?;
+    let second = rows_built(&mut calendar, &[back], &[100, 99]);
+    check_eq(second, Ok((1 << 10, 0)))
 }

@@ -6,15 +6,15 @@ use Rattle.calendar.specs.Figures.{figures, limitFigures}
 use Rattle.calendar.specs.Calls.{rerowed}
 use Rattle.calendar.proofs.Counts.{limit-rows}
 use Rattle.calendar.proofs.Shown.{shown-changed}
-use Rattle.calendar.proofs.calendar.Calendar.set_row.Needs as need
+use Rattle.calendar.proofs.calendar.Calendar.put_row.Needs as need
 
 pub returns : need.returns
 returns c =
     let cal = c .args .self .now in
     let f = figures cal in
-    let d = c .index-self-place .result in
-    let old = limitFigures (getD (cal .limits) (c .args .place) d) in
-    let e : c .args .place ≡ c .args .place + 1 - 1 = omega arith in
-    let w : limitFigures (c .with-row .result) ≡ rerowed (c .args .row .bits) old = c .with-row .ensures in
+    let d = c .index-self-limit .result in
+    let change = rerowed (c .args .row .bits) in
+    let e : c .args .limit ≡ c .args .limit + 1 - 1 = omega arith in
+    let w : limitFigures (c .with-row .result) ≡ change (limitFigures (getD (cal .limits) (c .args .limit) d)) = c .with-row .ensures in
     ap (λ ls. record { nodes = f .nodes; limits = ls; months = f .months })
-    (shown-changed limitFigures (rerowed (c .args .row .bits)) _ _ _ (cal .limits) _ d (c .pre) (limit-rows cal) e w)
+    (shown-changed limitFigures change _ _ _ (cal .limits) _ d (c .pre) (limit-rows cal) e w)
