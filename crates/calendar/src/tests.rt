@@ -136,39 +136,50 @@ fn flows_count_or_stray() -> Result<(), Fail> {
     check_eq(mark_of(IMPORT, 1, 100), Err(stray))
 }
 
-// The rows of two limits after a build.
+// The rows of three limits after a build.
 fn rows_built(
     calendar: &mut Calendar,
     references: &[Reference],
     flows: &[i32],
-) -> Result<(u32, u32), Refusal> {
+) -> Result<(u32, u32, u32), Refusal> {
     calendar.build_matrix(references, flows)?;
-    Ok((calendar.relation(1)?, calendar.relation(2)?))
+    Ok((
+        calendar.relation(1)?,
+        calendar.relation(2)?,
+        calendar.relation(3)?,
+    ))
 }
 
 #[test]
 fn a_second_build_clears_old_marks() -> Result<(), Fail> {
-    let mut calendar = small()?;
+    let mut calendar = Calendar::new();
     calendar.add_limit(EXPORT, 1, 1, [0; 12])?;
-    let there = Reference {
+    calendar.add_limit(WHEELING, 2, 1, [0; 12])?;
+    calendar.add_limit(IMPORT, 3, 1, [0; 12])?;
+    let one_three = Reference {
         injection: 1,
         withdrawal: 3,
     };
-    let back = Reference {
-        injection: 3,
-        withdrawal: 1,
+    let two_three = Reference {
+        injection: 2,
+        withdrawal: 3,
     };
-    // pair 1-3 has the number 1, pair 3-1 the number 10
-    let first = rows_built(
+    // pair 1-3 has the number 1, pair 2-3 the number 6
+    let references = [one_three, one_three, two_three];
+    let worked = rows_built(
         &mut calendar,
-        &[there, back, there],
-        &[99, 70, 100, 0, 250, -5],
+        &references,
+        &[60, 99, 80, -40, 100, 0, 99, 5, -7],
     );
-    check_eq(first, Ok((1 << 1 | 1 << 10, 1 << 1)))?;
-    let strayed = rows_built(&mut calendar, &[there, back], &[0, 0, 0, 100]);
-    check_eq(strayed, Err(Refusal::Stray { place: 2, limit: 2 }))?;
-    let short = rows_built(&mut calendar, &[there], &[0]);
+    check_eq(worked, Ok((1 << 1, 1 << 1 | 1 << 6, 1 << 1)))?;
+    let strayed = rows_built(
+        &mut calendar,
+        &references,
+        &[60, 99, 80, -40, 100, 0, 100, 5, -7],
+    );
+    check_eq(strayed, Err(Refusal::Stray { place: 3, limit: 1 }))?;
+    let short = rows_built(&mut calendar, &references, &[60, 99, 80]);
     check_eq(short, Err(Refusal::References))?;
-    let second = rows_built(&mut calendar, &[back], &[100, 99]);
-    check_eq(second, Ok((1 << 10, 0)))
+    let second = rows_built(&mut calendar, &[two_three], &[99, 5, -7]);
+    check_eq(second, Ok((0, 1 << 6, 0)))
 }
