@@ -1,0 +1,4 @@
+pub mod Factors
+pub mod Nodes
+pub mod PairRows
+pub mod Rules
