@@ -1,2 +1,4 @@
 mod Products
 mod Ranges
+mod Totals
+mod Worst

@@ -1,4 +1,5 @@
 // Factor sources, use rules, and the worst case over every choice of uses.
+mod load;
 mod node_table;
 mod pair_list;
 mod range;
@@ -6,6 +7,10 @@ mod rule;
 mod rules;
 mod source;
 
+pub use load::MOST_RIGHTS;
+pub use load::RightAtLimit;
+pub use load::within_bound;
+pub use load::worst_load;
 pub use node_table::NodeTable;
 pub use node_table::NodeTableSource;
 pub use pair_list::PairList;
