@@ -22,3 +22,6 @@ pub use rules::FirmUseRule;
 pub use rules::ObligationRule;
 pub use rules::ObligationUseRule;
 pub use source::FactorSource;
+
+#[cfg(test)]
+mod tests;
