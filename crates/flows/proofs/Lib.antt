@@ -1,3 +1,4 @@
+mod FirstRow
 mod Products
 mod Ranges
 mod Totals

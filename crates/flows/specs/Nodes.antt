@@ -19,14 +19,21 @@ in-table limits nodes month limit node =
 abbrev pub place : ℕ → ℕ → ℕ → ℕ → ℕ → ℕ
 place limits nodes month limit node = ((month - 1) * limits + (limit - 1)) * nodes + node
 
--- the entry at a place, none past the end of the entries or beyond ±1,000,000
-abbrev pub entry-from : List ℤ → ℕ → Option ℤ
-entry-from entries k = cond (ltb k (length entries)) (kept (pos most-entry) (getD entries k (pos 0))) None
+-- what stands at the place of a node in a month at a limit, none beyond the table or past the end of its entries
+abbrev pub stored-at : ℕ → ℕ → List ℤ → ℕ → ℕ → ℕ → Option ℤ
+stored-at limits nodes entries month limit node =
+    cond (in-table limits nodes month limit node && ltb (place limits nodes month limit node) (length entries))
+    (Some (getD entries (place limits nodes month limit node) (pos 0)))
+    None
+
+-- an entry lies within ±1,000,000, and one beyond is none
+abbrev pub in-entry-range : Option ℤ → Option ℤ
+in-entry-range (Some e) = kept (pos most-entry) e
+in-entry-range None = None
 
 -- the entry of a node in a month at a limit
 abbrev pub entry-at : ℕ → ℕ → List ℤ → ℕ → ℕ → ℕ → Option ℤ
-entry-at limits nodes entries month limit node =
-    cond (in-table limits nodes month limit node) (entry-from entries (place limits nodes month limit node)) None
+entry-at limits nodes entries month limit node = in-entry-range (stored-at limits nodes entries month limit node)
 
 -- the difference of two entries, none without both
 abbrev pub less : Option ℤ → Option ℤ → Option ℤ

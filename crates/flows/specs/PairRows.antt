@@ -1,10 +1,11 @@
 -- The pair list: rows of month, limit, injection, withdrawal and factor.
-use mathlib.Core.Bool.{Bool, cond, _&&_}
+use mathlib.Core.Path.{_≡_}
+use mathlib.Core.Bool.{Bool, true, false, cond, _&&_}
 use mathlib.Core.List.{List, [], _∷_}
-use Prim.Native.Nat.{ℕ}
+use Prim.Native.Nat.{ℕ, _<_}
 use lib.Dec.{eqb, leb}
 use lib.IntN.{ℤ, pos}
-use lib.ListN.{length}
+use lib.ListN.{length, getD}
 use Rattle.std.specs.declared.option.Option.{Option}
 use Rattle.std.specs.declared.option.Option.the-variants.{Some, None}
 use Rattle.terms.specs.Ranges.{most-factor, most-pair-rows}
@@ -26,3 +27,17 @@ first-fitting month limit injection withdrawal (row ∷ rows) =
 abbrev pub pair-factor : List PairRow → ℕ → ℕ → ℕ → ℕ → Option ℤ
 pair-factor rows month limit injection withdrawal =
     cond (leb (length rows) most-pair-rows) (first-fitting month limit injection withdrawal rows) None
+
+-- a row of zeros, which stands for what lies past the end of a list
+abbrev pub no-row : PairRow
+no-row = record { month = 0; limit = 0; injection = 0; withdrawal = 0; factor = pos 0 }
+
+-- none of the rows before a place fits
+abbrev pub NoneFits : ℕ → ℕ → ℕ → ℕ → List PairRow → ℕ → Type 0
+NoneFits month limit injection withdrawal rows n = (k : ℕ) → k < n → fits month limit injection withdrawal (getD rows k no-row) ≡ false
+
+-- the row at a place is the first that fits
+pub record FirstFits (month limit injection withdrawal : ℕ) (rows : List PairRow) (k : ℕ) : Type 0 where
+  pub inside : k < length rows
+  pub here : fits month limit injection withdrawal (getD rows k no-row) ≡ true
+  pub before : NoneFits month limit injection withdrawal rows k

@@ -3,7 +3,7 @@ ghost use mathlib.Core.Bool.{cond};
 ghost use mathlib.Core.List.{[], _∷_, _++_};
 ghost use Rattle.std.specs.Of.Vec.{vec-items};
 ghost use Rattle.std.specs.Results.{isOk};
-ghost use Rattle.flows.specs.Nodes.{in-table, entry-at, node-factor};
+ghost use Rattle.flows.specs.Nodes.{in-table, stored-at, entry-at, node-factor};
 use crate::range::within;
 use crate::source::FactorSource;
 use std::alloc::AllocError;
@@ -28,11 +28,7 @@ impl NodeTable {
         ensures nodes { λ r. ⌜ r .nodes ≡ nodes ⌝ }
         ensures entries { λ r. ⌜ vec-items (r .entries) ≡ [] ⌝ }
     {
-        NodeTable {
-            limits,
-            nodes,
-            entries: Vec::new(heap),
-        }
+        NodeTable::from_entries(limits, nodes, Vec::new(heap))
     }
 
     // A table of these counts and entries.
@@ -71,9 +67,9 @@ impl NodeTable {
             && node < self.nodes
     }
 
-    // The entry of a node in a month at a limit.
-    fn entry(&self, month: u32, limit: u32, node: u32) -> Option<i32>
-        ensures { λ r. ⌜ r ≡ entry-at (now (self .entry) .limits) (now (self .entry) .nodes) (vec-items (now (self .entry) .entries)) month limit node ⌝ }
+    // What stands at the place of a node in a month at a limit.
+    fn stored(&self, month: u32, limit: u32, node: u32) -> Option<i32>
+        ensures { λ r. ⌜ r ≡ stored-at (now (self .entry) .limits) (now (self .entry) .nodes) (vec-items (now (self .entry) .entries)) month limit node ⌝ }
     {
         if !self.has(month, limit, node) {
             return None;
@@ -82,7 +78,17 @@ impl NodeTable {
         if place >= self.entries.len() {
             return None;
         }
-        within(MOST_ENTRY, self.entries[place])
+        Some(self.entries[place])
+    }
+
+    // The entry of a node in a month at a limit, if it lies in its range.
+    fn entry(&self, month: u32, limit: u32, node: u32) -> Option<i32>
+        ensures { λ r. ⌜ r ≡ entry-at (now (self .entry) .limits) (now (self .entry) .nodes) (vec-items (now (self .entry) .entries)) month limit node ⌝ }
+    {
+        match self.stored(month, limit, node) {
+            Some(value) => within(MOST_ENTRY, value),
+            None => None,
+        }
     }
 }
 

@@ -2,11 +2,13 @@ ghost use mathlib.Core.Path.{_≡_};
 ghost use mathlib.Core.Bool.{cond};
 ghost use mathlib.Core.List.{[], _∷_, _++_};
 ghost use lib.IntN.{pos};
+ghost use lib.ListN.{length};
 ghost use Rattle.std.specs.Of.Vec.{vec-items};
+ghost use Rattle.std.specs.Options.{Cases};
 ghost use Rattle.std.specs.Results.{isOk};
 ghost use Rattle.terms.specs.Ranges.{most-factor};
 ghost use Rattle.flows.specs.Factors.{kept};
-ghost use Rattle.flows.specs.PairRows.{fits, first-fitting, pair-factor};
+ghost use Rattle.flows.specs.PairRows.{fits, NoneFits, FirstFits, pair-factor};
 use crate::range::within;
 use crate::source::FactorSource;
 use std::alloc::AllocError;
@@ -75,19 +77,19 @@ impl PairList {
     }
 }
 
-// What the first row that fits decides.
+// The place of the first row that fits.
 fn first_fitting(
     rows: &[PairRow],
     month: u32,
     limit: u32,
     injection: u32,
     withdrawal: u32,
-) -> Option<i32>
-    ensures { λ r. ⌜ r ≡ first-fitting month limit injection withdrawal (now (rows .entry)) ⌝ }
+) -> Option<usize>
+    ensures { λ r. ⌜ Cases r (NoneFits month limit injection withdrawal (now (rows .entry)) (length (now (rows .entry)))) (λ k. FirstFits month limit injection withdrawal (now (rows .entry)) k) ⌝ }
 {
-    for row in rows {
+    for (i, row) in rows.iter().enumerate() {
         if row.fits(month, limit, injection, withdrawal) {
-            return row.factor_in_range();
+            return Some(i);
         }
     }
     None
@@ -100,6 +102,9 @@ pub impl FactorSource for PairList as PairListSource {
         if self.rows.len() > MOST_PAIR_ROWS {
             return None;
         }
-        first_fitting(&self.rows, month, limit, injection, withdrawal)
+        match first_fitting(&self.rows, month, limit, injection, withdrawal) {
+            Some(place) => self.rows[place].factor_in_range(),
+            None => None,
+        }
     }
 }
