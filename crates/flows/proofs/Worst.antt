@@ -72,6 +72,6 @@ module _ (means : Meaning) (allowed : ℕ → ℕ → Type 0) (worst : ℕ → �
       }
 
 -- a sum that is the worst case decides whether every choice stays within a bound
-pub decided : (means : Meaning) (allowed : ℕ → ℕ → Type 0) (month limit : ℕ) (rights : List RightAtLimit) (sum bound : ℤ) (b : Bool) → Worst-case means allowed month limit rights sum → (b ≡ true → sum ≤ℤ bound) → (b ≡ false → bound <ℤ sum) → When b (Within means allowed month limit rights bound) (Passable means allowed month limit rights bound)
-decided means allowed month limit rights sum bound true w low high = w .keeps bound (low refl)
-decided means allowed month limit rights sum bound false w low high = w .passed bound (high refl)
+pub decided : (means : Meaning) (allowed : ℕ → ℕ → Type 0) (month limit : ℕ) (rights : List RightAtLimit) (sum bound : ℤ) (b : Bool) → Worst-case means allowed month limit rights sum → When b (sum ≤ℤ bound) (bound <ℤ sum) → When b (Within means allowed month limit rights bound) (Passable means allowed month limit rights bound)
+decided means allowed month limit rights sum bound true w h = w .keeps bound h
+decided means allowed month limit rights sum bound false w h = w .passed bound h

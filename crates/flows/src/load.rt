@@ -1,4 +1,5 @@
 ghost use mathlib.Core.Path.{_≡_};
+ghost use lib.Signed.{_≤ℤ_, _<ℤ_};
 ghost use Rattle.std.specs.Orderings.{When};
 ghost use Rattle.std.specs.Results.{errPart};
 ghost use Rattle.std.specs.Vec.{made};
@@ -80,6 +81,13 @@ pub fn worst_load<S: FactorSource, R: UseRule>(
     Ok(sum)
 }
 
+// Whether a sum of flows stays within a bound.
+fn keeps(sum: i64, bound: i64) -> bool
+    ensures { λ r. ⌜ When r (sum ≤ℤ bound) (bound <ℤ sum) ⌝ }
+{
+    sum <= bound
+}
+
 // Whether every choice of uses keeps the flow at a limit in a month within a bound.
 pub fn within_bound<S: FactorSource, R: UseRule>(
     source: &S,
@@ -93,5 +101,5 @@ pub fn within_bound<S: FactorSource, R: UseRule>(
     ensures choices { λ r. ⌜ made r (λ yes. When yes (Within (S·FactorSource .means (now (source .entry))) (R·UseRule .allowed (now (rule .entry))) month limit (now (rights .entry)) bound) (Passable (S·FactorSource .means (now (source .entry))) (R·UseRule .allowed (now (rule .entry))) month limit (now (rights .entry)) bound)) ⌝ }
 {
     let sum = worst_load(source, rule, month, limit, rights)?;
-    Ok(sum <= bound)
+    Ok(keeps(sum, bound))
 }

@@ -1,9 +1,8 @@
-use mathlib.Core.Path.{sym}
-use native.Mathlib.Omega.{arith}
+use mathlib.Core.Path.{sym, subst}
 use borrow.Author.Needs.{needs}
 use mir.Syntax.{w64}
 use mir.Val.{SFits}
-use Rattle.std.proofs.shelf.Signed.{ints}
+use Rattle.std.proofs.shelf.Signed.{ints, toZ-ofZ}
 use Rattle.flows.proofs.Totals.{judged-ok}
 use Rattle.flows.proofs.Worst.{decided}
 use Rattle.flows.proofs.load.within_bound.Needs as need
@@ -14,7 +13,8 @@ returns g c =
     let sum = c .in-Continue-sum .sum in
     let fits : SFits w64 sum = search needs in
     let bound : SFits w64 (c .args .bound) = c .fits .bound in
+    let kept = c .keeps .ensures in
     record {
       refusal = sym (judged-ok _ _ sum (found .value) .0);
-      choices = decided (g .S·FactorSource .means (c .args .source .now)) (g .R·UseRule .allowed (c .args .rule .now)) (c .args .month) (c .args .limit) (c .args .rights .now) sum (c .args .bound) _ (found .worst) (λ t. omega (arith, ints)) (λ t. omega (arith, ints));
+      choices = decided (g .S·FactorSource .means (c .args .source .now)) (g .R·UseRule .allowed (c .args .rule .now)) (c .args .month) (c .args .limit) (c .args .rights .now) sum (c .args .bound) (c .keeps .result) (found .worst) (simp toZ-ofZ at kept);
     }
