@@ -15,7 +15,7 @@ use Rattle.terms.specs.Ranges.{most-power}
 use Rattle.flows.specs.declared.load.RightAtLimit.{RightAtLimit}
 use Rattle.flows.specs.Factors.{In-range, Ranged, Meaning}
 use Rattle.flows.specs.Loads.{counts, factor-of, worst-at, worst-of, load}
-use Rattle.flows.specs.Choices.{Choice, carried, flow-of, flow, Within, Passable, Worst-case}
+use Rattle.flows.specs.Choices.{Choice, carried, flow, Within, Passable, Worst-case}
 
 -- what the laws say of a source's meaning and a rule's uses
 pub record Lawful (means : Meaning) (allowed : ℕ → ℕ → Type 0) (worst : ℕ → ℤ → ℤ) : Type 0 where

@@ -7,7 +7,7 @@ use lib.Dec.{eqb, leb}
 use lib.IntN.{ℤ, pos}
 use lib.ListN.{length, getD}
 use Rattle.std.specs.declared.option.Option.{Option}
-use Rattle.std.specs.declared.option.Option.the-variants.{Some, None}
+use Rattle.std.specs.declared.option.Option.the-variants.{None}
 use Rattle.terms.specs.Ranges.{most-factor, most-pair-rows}
 use Rattle.flows.specs.declared.pair_list.PairRow.{PairRow}
 use Rattle.flows.specs.Factors.{kept}

@@ -1,8 +1,8 @@
-use mathlib.Core.Path.{sym, subst}
+use mathlib.Core.Path.{sym}
 use borrow.Author.Needs.{needs}
 use mir.Syntax.{w64}
 use mir.Val.{SFits}
-use Rattle.std.proofs.shelf.Signed.{ints, toZ-ofZ}
+use Rattle.std.proofs.shelf.Signed.{toZ-ofZ}
 use Rattle.flows.proofs.Totals.{judged-ok}
 use Rattle.flows.proofs.Worst.{decided}
 use Rattle.flows.proofs.load.within_bound.Needs as need
