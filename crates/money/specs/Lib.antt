@@ -1,0 +1,4 @@
+pub mod Months
+pub mod Guarantees
+pub mod Instalments
+pub mod Payments

@@ -1,0 +1,8 @@
+// The money of a right, in whole US cents: its floor, its guarantee, the instalments of its charge and what they lack.
+mod dues;
+mod guarantee;
+mod months;
+
+pub use dues::Dues;
+pub use dues::Instalment;
+pub use months::MonthSpan;
