@@ -84,15 +84,23 @@ GoodReferences f rs flows =
 abbrev pub straysAt : Figures → List Reference → List ℤ → ℕ → ℕ → Bool
 straysAt f rs flows i limit = strays (limitOf f limit) (referenceAt rs i) (flowAt flows (limitCount f) i limit)
 
+-- the reference at place i strays at no limit, or first at this one
+abbrev pub StraysNowhere : Figures → List Reference → List ℤ → ℕ → Type 0
+StraysNowhere f rs flows i = (limit : ℕ) → HasLimit f limit → straysAt f rs flows i limit ≡ false
+
+abbrev pub StraysFirstAt : Figures → List Reference → List ℤ → ℕ → ℕ → Type 0
+StraysFirstAt f rs flows i limit =
+    HasLimit f limit × (straysAt f rs flows i limit ≡ true)
+    × ((l : ℕ) → 1 ≤ l → l < limit → straysAt f rs flows i l ≡ false)
+
+-- no reference strays
 abbrev pub NoStray : Figures → List Reference → List ℤ → Type 0
-NoStray f rs flows = (i limit : ℕ) → i < length rs → HasLimit f limit → straysAt f rs flows i limit ≡ false
+NoStray f rs flows = (i : ℕ) → i < length rs → StraysNowhere f rs flows i
 
 -- the first reference that strays, and the first limit at which it does
 abbrev pub FirstStray : Figures → List Reference → List ℤ → ℕ → ℕ → Type 0
 FirstStray f rs flows i limit =
-    (i < length rs) × HasLimit f limit × (straysAt f rs flows i limit ≡ true)
-    × ((l : ℕ) → 1 ≤ l → l < limit → straysAt f rs flows i l ≡ false)
-    × ((j l : ℕ) → j < i → HasLimit f l → straysAt f rs flows j l ≡ false)
+    (i < length rs) × StraysFirstAt f rs flows i limit × ((j : ℕ) → j < i → StraysNowhere f rs flows j)
 
 -- a limit but for its row
 abbrev pub unmarked : LimitFigures → LimitFigures
@@ -112,5 +120,5 @@ BuildsMatrix entry rs flows (Ok _) exit =
     × RowsSet (figures entry) rs flows (limitCount (figures entry)) (figures exit)
 BuildsMatrix entry rs flows (Err e) exit =
     (exit ≡ entry)
-    × ( ((e ≡ References) × (GoodReferences (figures entry) rs flows → ⊥))
-      ⊎ (GoodReferences (figures entry) rs flows × ((i limit : ℕ) × FirstStray (figures entry) rs flows i limit × (e ≡ Stray (i + 1) limit))))
+    × (((e ≡ References) × (GoodReferences (figures entry) rs flows → ⊥))
+    ⊎ (GoodReferences (figures entry) rs flows × ((i limit : ℕ) × FirstStray (figures entry) rs flows i limit × (e ≡ Stray (i + 1) limit))))

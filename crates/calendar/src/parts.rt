@@ -40,7 +40,7 @@ pub(crate) struct PayDay {
 // The marks of a limit: bit j is that of pair j.
 #[derive(Clone, Copy)]
 pub(crate) struct RelationRow {
-    bits: u32,
+    pub(crate) bits: u32,
     ghost narrow: { bits < 2 ^ 30 },
 }
 

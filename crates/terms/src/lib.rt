@@ -30,3 +30,5 @@ pub use ranges::PAIRS;
 pub use ranges::ROWS;
 pub use refusal::Fields;
 pub use refusal::Refusal;
+pub use refusal::RefusalDebug;
+pub use refusal::RefusalPartialEq;

@@ -2,7 +2,7 @@ ghost use mathlib.Core.Path.{_≡_};
 ghost use Prim.Native.Nat.{_+_, _<_, _≤_};
 ghost use Rattle.std.specs.Results.{Cases};
 ghost use Rattle.calendar.specs.Figures.{figures, limitFigures, nodeFigures};
-ghost use Rattle.calendar.specs.Calls.{AddsLimit, AddsNode, emptyFigures, LimitFits, NumberedLimit, repriced, rerowed, SetsHours, SetsPayDay, SetsPrice, SetsRelation};
+ghost use Rattle.calendar.specs.Calls.{AddsLimit, AddsNode, emptyFigures, LimitFits, NumberedLimit, repriced, rerowed, SetsHours, SetsPayDay, SetsPrice, SetsRelation, withRow};
 use super::Calendar;
 use super::Limit;
 use super::Month;
@@ -129,8 +129,16 @@ impl Calendar {
     {
         let place = self.limit_place(limit)?;
         let row = RelationRow::new(row)?;
-        self.limits[place] = self.limits[place].with_row(row);
+        self.set_row(place, row);
         Ok(())
+    }
+
+    // Sets the row of the limit at a place.
+    pub(super) fn set_row(&mut self, place: usize, row: RelationRow)
+        requires { ⌜ place < now self .«limit_count» ⌝ }
+        ensures { λ _. ⌜ figures (now (self .exit)) ≡ withRow (figures (now (self .entry))) (place + 1) (row .bits) ⌝ }
+    {
+        self.limits[place] = self.limits[place].with_row(row);
     }
 }
 

@@ -1,0 +1,5 @@
+pub mod Words
+pub mod Submissions
+pub mod Places
+pub mod Reading
+pub mod Writing
