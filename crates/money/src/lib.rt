@@ -2,7 +2,9 @@
 mod dues;
 mod guarantee;
 mod months;
+mod transfer;
 
 pub use dues::Dues;
 pub use dues::Instalment;
 pub use months::MonthSpan;
+pub use transfer::Transfer;

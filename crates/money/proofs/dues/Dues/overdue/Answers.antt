@@ -18,7 +18,7 @@ loop-month-again c =
     let test = late (figures (c .args .calendar .now)) (d .charge) (d .paid) first (d .months .last) (c .args .day) in
     let s : month + 1 - first ≡ month - first + 1 = omega arith in
     ap (someMonth test first) s ∙ over-more (λ x y. x || y) false test first (month - first) month (omega arith)
-    ∙ or-from _ _ (c .loop-month .inv) (sym (c .late .ensures) ∙ c .if-late .left)
+    ∙ or-from (someMonth test first (month - first)) (test month) (c .loop-month .inv) (sym (c .late .ensures) ∙ c .if-late .left)
 
 pub returns-then-late : need.returns-then-late
 returns-then-late c =
