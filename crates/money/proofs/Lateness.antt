@@ -1,8 +1,8 @@
 -- A right is overdue exactly when some month is late, and never without a debt.
-use mathlib.Core.Path.{_≡_, sym, ap, subst, _∙_}
+use mathlib.Core.Path.{_≡_, sym, subst, _∙_}
 use mathlib.Core.Bool.{Bool, true, false}
 use mathlib.Core.Logic.{⊎-elim}
-use Prim.Native.Nat.{ℕ, _+_, _-_, _<_, _≤_}
+use Prim.Native.Nat.{ℕ, _+_, _<_, _≤_}
 use lib.Dec.{ltb}
 use native.Mathlib.Omega.{arith}
 use Rattle.std.specs.Orderings.{Decides}
@@ -10,7 +10,7 @@ use Rattle.std.proofs.shelf.Tests.{and-parts, and-from, ltb-true, lt-ltb, cases
 use Rattle.calendar.specs.Figures.{Figures, payDay}
 use Rattle.money.specs.Months.{monthCount}
 use Rattle.money.specs.Payments.{lack, debt, late, overdue, Overdue}
-use Rattle.money.proofs.Sums.{sum-part, some-at, some-is}
+use Rattle.money.proofs.Sums.{sum-part, some-here, some-is}
 
 module _ (cal : Figures) (charge paid first last day : ℕ) where
   pub overdue-decides : first ≤ last → Decides (overdue cal charge paid first last day) (Overdue cal charge paid first last day)
@@ -23,11 +23,8 @@ module _ (cal : Figures) (charge paid first last day : ℕ) where
     (λ o.
         let m = o .0 in
         let v = o .1 in
-        let s : first + (m - first) ≡ m = omega (arith, v .0) in
         let t : late cal charge paid first last day m ≡ true = and-from _ _ (lt-ltb _ _ (o .2)) (lt-ltb _ _ (o .3)) in
-        some-at (late cal charge paid first last day) first (monthCount first last) (m - first)
-        (omega (arith, v .0, v .1))
-        (ap (late cal charge paid first last day) s ∙ t)),
+        some-here (late cal charge paid first last day) first (monthCount first last) m (v .0) (omega (arith, v .0, v .1)) t),
   )
 
   pub settled : debt charge paid first last ≡ 0 → overdue cal charge paid first last day ≡ false

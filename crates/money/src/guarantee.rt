@@ -9,6 +9,7 @@ impl MonthSpan {
         ensures value { λ r. ⌜ r ≡ guaranteeOf offer (self .first) (self .last) ⌝ }
         ensures least { λ r. ⌜ LeastCover (fraction (self .first) (self .last)) offer r ⌝ }
     {
-        offer.div_ceil(if self.count() == 1 { 5 } else { 10 })
+        let parts = if self.count() == 1 { 5 } else { 10 };
+        offer.div_ceil(parts)
     }
 }

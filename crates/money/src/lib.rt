@@ -8,3 +8,6 @@ pub use dues::Dues;
 pub use dues::Instalment;
 pub use months::MonthSpan;
 pub use transfer::Transfer;
+
+#[cfg(test)]
+mod tests;

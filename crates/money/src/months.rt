@@ -42,12 +42,12 @@ impl MonthSpan {
         ensures value { λ r. ⌜ r ≡ monthCount (self .first) (self .last) ⌝ }
         ensures range { λ r. ⌜ (1 ≤ r) × (r ≤ 12) ⌝ }
     {
-        self.last - self.first + 1
+        1 + self.last - self.first
     }
 
     pub fn contains(self, month: u32) -> bool
         ensures { λ r. ⌜ Decides r (IsValid (self .first) (self .last) month) ⌝ }
     {
-        self.first <= month && month <= self.last
+        month >= self.first && month <= self.last
     }
 }

@@ -9,7 +9,7 @@ use Rattle.std.proofs.shelf.Signed.{ints}
 use Rattle.calendar.specs.Figures.{figures}
 use Rattle.money.specs.Floors.{cut, monthWorth, signedSum}
 use Rattle.money.specs.Months.{monthCount}
-use Rattle.money.proofs.Sums.{over-more}
+use Rattle.money.proofs.Sums.{over-next}
 use Rattle.money.proofs.transfer.Transfer.floor.Needs as need
 
 pub add-sum : need.add-sum
@@ -23,18 +23,17 @@ loop-month-again c =
     let worths = monthWorth (figures (c .args .calendar .now)) (t .injection) (t .withdrawal) (t .power) in
     let first = t .months .first in
     let month = c .loop-month .month in
-    let k = month - first in
     let z = c .in-Continue-worth .worth in
     let f : SFits w64 z = search needs in
-    let s : month + 1 - first ≡ k + 1 = omega arith in
     let e : signedSum worths first (month + 1 - first) ≡ c .loop-month .sum +ℤ z =
-    ap (signedSum worths first) s ∙ over-more (λ x y. x +ℤ y) (pos 0) worths first k month (omega arith)
+    over-next (λ x y. x +ℤ y) (pos 0) worths first month (omega arith)
     ∙ ap (λ x. x +ℤ worths month) (sym (sym (c .loop-month .sum-is) ∙ c .loop-month .inv .0))
-    ∙ ap (λ x. c .loop-month .sum +ℤ x) (sym (c .in-Continue-worth .ensures tt .1)) in
-    ( omega (arith, ints)
-    , omega (arith, ints)
-    , omega (arith, ints)
-    , λ _. c .in-Continue-worth .ensures tt .0)
+    ∙ ap (λ x. c .loop-month .sum +ℤ x) (sym (c .in-Continue-worth .ensures tt .1)) in (
+      omega (arith, ints),
+      omega (arith, ints),
+      omega (arith, ints),
+      λ _. c .in-Continue-worth .ensures tt .0,
+    )
 
 pub returns : need.returns
 returns c =

@@ -16,10 +16,13 @@ worth-requires c κs =
     let w = c .in-Continue-withdrawal .ensures tt .range in
     let i = c .in-Continue-injection .ensures tt .range in
     let h : c .in-Continue-hours .hours ≤ 744 = c .in-Continue-hours .ensures tt .range in
-    let p : c .args .self .power ≤ 4294967295 = omega arith in
-    ( omega (arith, ints, w .0, w .1, i .0, i .1)
-    , ( omega (arith, ints, w .0, w .1, i .0, i .1)
-      , mul-le (c .args .self .power) (c .in-Continue-hours .hours) 4294967295 744 p h))
+    let p : c .args .self .power ≤ 4294967295 = omega arith in (
+      omega (arith, ints, w .0, w .1, i .0, i .1),
+      (
+        omega (arith, ints, w .0, w .1, i .0, i .1),
+        mul-le (c .args .self .power) (c .in-Continue-hours .hours) 4294967295 744 p h,
+      ),
+    )
 
 pub returns : need.returns
 returns c =
@@ -37,10 +40,11 @@ returns c =
     let wide : ℤ → ℤ = λ z. toZ w64 (ofZ w64 z) in
     let short : ℤ → ℤ = λ z. toZ w32 (ofZ w32 z) in
     let d : wide (wide (short w) -ℤ wide (short i)) ≡ w -ℤ i = omega (arith, ints, wr .0, wr .1, ir .0, ir .1) in
-    let r : wide (c .worth .result) ≡ c .worth .result = omega (arith, ints) in
-    ( (iv .0 .0, wv .0 .0)
-    , ( r ∙ c .worth .ensures
-      ∙ ap (λ x. x *ℤ pos (t .power * h)) d
-      ∙ ap (λ x. (x -ℤ i) *ℤ pos (t .power * h)) (wv .1)
-      ∙ ap (λ x. (price cal (t .withdrawal) month -ℤ x) *ℤ pos (t .power * h)) (iv .1)
-      ∙ ap (λ x. (price cal (t .withdrawal) month -ℤ price cal (t .injection) month) *ℤ pos (t .power * x)) (hv .1)))
+    let r : wide (c .worth .result) ≡ c .worth .result = omega (arith, ints) in (
+      (iv .0 .0, wv .0 .0),
+      (r ∙ c .worth .ensures
+          ∙ ap (λ x. x *ℤ pos (t .power * h)) d
+          ∙ ap (λ x. (x -ℤ i) *ℤ pos (t .power * h)) (wv .1)
+          ∙ ap (λ x. (price cal (t .withdrawal) month -ℤ x) *ℤ pos (t .power * h)) (iv .1)
+          ∙ ap (λ x. (price cal (t .withdrawal) month -ℤ price cal (t .injection) month) *ℤ pos (t .power * x)) (hv .1)),
+    )
