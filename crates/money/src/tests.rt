@@ -22,7 +22,7 @@ fn guarantees() -> Result<(), Fail> {
         (1, 2_000_000_000_000, 400_000_000_000),
     ];
     for (last, offer, guarantee) in cases.iter() {
-        check_eq(months(1, *last)?.guarantee(*offer), *guarantee)?;
+        check_eq(crate::guarantee(*offer, 1, *last), *guarantee)?;
     }
     Ok(())
 }
