@@ -1,0 +1,5 @@
+pub mod Months
+pub mod Guarantees
+pub mod Instalments
+pub mod Payments
+pub mod Floors
