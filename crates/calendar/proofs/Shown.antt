@@ -46,3 +46,24 @@ module _ {A B : Type 0} (f : A → B) where
 -- what stands at place i has the number i + 1
 pub numbered-place : {A : Type 0} (xs : List A) (i n : ℕ) (d : A) → i + 1 ≡ n → numbered xs n d ≡ getD xs i d
 numbered-place xs i n d e = ap (λ m. numbered xs m d) (sym e ∙ add-one i)
+
+-- what holds of every row holds wherever a list of them is read
+module _ {A B : Type 0} (f : A → B) (P : B → Type 0) (each : (a : A) → P (f a)) (d : B) (none : P d) where
+  pub every-getD : (xs : List A) (i : ℕ) → P (getD (map f xs) i d)
+  every-getD [] i = none
+  every-getD (x ∷ xs) zero = each x
+  every-getD (x ∷ xs) (suc i) = every-getD xs i
+
+  pub every-numbered : (xs : List A) (n : ℕ) → P (numbered (map f xs) n d)
+  every-numbered xs zero = none
+  every-numbered xs (suc n) = every-getD xs n
+
+module _ {A B : Type 0} (f : A → B) (P : B → Type 0) (each : (a : A) → P (f a)) (d : B) where
+  pub within-getD : (xs : List A) (i : ℕ) → i < length (map f xs) → P (getD (map f xs) i d)
+  within-getD [] i h = absurd (omega arith)
+  within-getD (x ∷ xs) zero h = each x
+  within-getD (x ∷ xs) (suc i) h = within-getD xs i (omega arith)
+
+  pub within-numbered : (xs : List A) (n : ℕ) → 1 ≤ n → n ≤ length (map f xs) → P (numbered (map f xs) n d)
+  within-numbered xs zero low high = absurd (omega arith)
+  within-numbered xs (suc n) low high = within-getD xs n high

@@ -3,21 +3,22 @@ use mathlib.Core.Path.{_≡_}
 use mathlib.Core.Bool.{true}
 use mathlib.Core.List.{List, [], _∷_, _++_}
 use mathlib.Core.Logic.{_⊎_}
-use Prim.Native.Nat.{ℕ, zero, suc, _+_, _-_, _^_, _<_, _≤_}
-use lib.IntN.{ℤ, pos, negsuc}
+use Prim.Native.Nat.{ℕ, zero, suc, _+_, _-_, _<_, _≤_}
+use lib.IntN.{ℤ, pos}
 use lib.ListN.{getD, replicate, set}
-use lib.Signed.{_≤ℤ_}
 use Rattle.std.specs.Options.{isSome}
 use Rattle.std.specs.declared.option.Option.the-variants.{Some}
 use Rattle.std.specs.declared.result.Result.{Result}
 use Rattle.std.specs.declared.result.Result.the-variants.{Ok, Err}
+use Rattle.terms.specs.Ranges.{most-limits, most-nodes}
 use Rattle.terms.specs.declared.refusal.Refusal.{Refusal}
 use Rattle.terms.specs.declared.refusal.Refusal.the-variants.{CalendarValue, CalendarFull}
 use Rattle.calendar.specs.declared.kinds.LimitKind.{LimitKind}
 use Rattle.calendar.specs.declared.kinds.Direction.{Direction}
 use Rattle.calendar.specs.declared.calendar.Calendar.{Calendar}
 use Rattle.calendar.specs.Kinds.{kindNumbered, directionNumbered}
-use Rattle.calendar.specs.Figures.{Figures, NodeFigures, LimitFigures, MonthFigures, figures, IsMonth, HasNode, HasLimit, nodeCount, limitCount}
+use Rattle.calendar.specs.Figures.{Figures, NodeFigures, LimitFigures, MonthFigures, figures, HasNode, HasLimit, nodeCount, limitCount}
+use Rattle.calendar.specs.Values.{IsArea, IsHours, IsMonth, IsPayDay, IsPrice, IsRow, IsValue}
 
 -- the list with f of what stands at place i, from 0, in its stead
 abbrev pub changed : {A : Type 0} → ℕ → (A → A) → List A → List A
@@ -29,14 +30,13 @@ changed (suc i) f (x ∷ xs) = x ∷ changed i f xs
 abbrev pub emptyFigures : Figures
 emptyFigures = record { nodes = []; limits = []; months = replicate 12 (record { hours = 0; payDay = 0 }) }
 
--- one more node, with no prices yet
-abbrev pub withNode : Figures → ℕ → Figures
-withNode f area =
-    record {
-      nodes = f .nodes ++ record { area = area; prices = replicate 12 (pos 0) } ∷ [];
-      limits = f .limits;
-      months = f .months;
-    }
+-- one more node
+abbrev pub withNode : Figures → NodeFigures → Figures
+withNode f node = record { nodes = f .nodes ++ node ∷ []; limits = f .limits; months = f .months }
+
+-- a node with no prices yet
+abbrev pub newNode : ℕ → NodeFigures
+newNode area = record { area = area; prices = replicate 12 (pos 0) }
 
 -- one more limit
 abbrev pub withLimit : Figures → LimitFigures → Figures
@@ -51,22 +51,20 @@ withPrice f node month price =
     record { nodes = changed node (repriced month price) (f .nodes); limits = f .limits; months = f .months }
 
 -- other hours of a month
+abbrev pub rehoured : ℕ → MonthFigures → MonthFigures
+rehoured hours m = record { hours = hours; payDay = m .payDay }
+
 abbrev pub withHours : Figures → ℕ → ℕ → Figures
 withHours f month hours =
-    record {
-      nodes = f .nodes;
-      limits = f .limits;
-      months = changed (month - 1) (λ m. record { hours = hours; payDay = m .payDay }) (f .months);
-    }
+    record { nodes = f .nodes; limits = f .limits; months = changed (month - 1) (rehoured hours) (f .months) }
 
 -- another pay day of a month
+abbrev pub redated : ℕ → MonthFigures → MonthFigures
+redated day m = record { hours = m .hours; payDay = day }
+
 abbrev pub withPayDay : Figures → ℕ → ℕ → Figures
 withPayDay f month day =
-    record {
-      nodes = f .nodes;
-      limits = f .limits;
-      months = changed (month - 1) (λ m. record { hours = m .hours; payDay = day }) (f .months);
-    }
+    record { nodes = f .nodes; limits = f .limits; months = changed (month - 1) (redated day) (f .months) }
 
 -- another row of a limit
 abbrev pub rerowed : ℕ → LimitFigures → LimitFigures
@@ -77,20 +75,14 @@ abbrev pub withRow : Figures → ℕ → ℕ → Figures
 withRow f limit row =
     record { nodes = f .nodes; limits = changed (limit - 1) (rerowed row) (f .limits); months = f .months }
 
-abbrev pub IsArea : ℕ → Type 0
-IsArea area = (1 ≤ area) × (area ≤ 6)
-
-abbrev pub IsPrice : ℤ → Type 0
-IsPrice price = (negsuc 999999 ≤ℤ price) × (price ≤ℤ pos 1000000)
-
 -- a value beyond its range is refused first, then want of room
 abbrev pub Refused : Refusal → Type 0 → Type 0 → Type 0
 Refused e Fits Room = ((e ≡ CalendarValue) × (Fits → ⊥)) ⊎ ((e ≡ CalendarFull) × Fits × (Room → ⊥))
 
 abbrev pub AddsNode : Calendar → ℕ → Result ℕ Refusal → Calendar → Type 0
 AddsNode entry area (Ok node) exit =
-    IsArea area × (node ≡ nodeCount (figures entry)) × (node < 64) × (figures exit ≡ withNode (figures entry) area)
-AddsNode entry area (Err e) exit = Refused e (IsArea area) (nodeCount (figures entry) < 64) × (exit ≡ entry)
+    IsArea area × (node ≡ nodeCount (figures entry)) × (node < most-nodes) × (figures exit ≡ withNode (figures entry) (newNode area))
+AddsNode entry area (Err e) exit = Refused e (IsArea area) (nodeCount (figures entry) < most-nodes) × (exit ≡ entry)
 
 abbrev pub PriceFits : Figures → ℕ → ℕ → ℤ → Type 0
 PriceFits f node month price = HasNode f node × IsMonth month × IsPrice price
@@ -105,7 +97,7 @@ SetsPrice entry node month price (Err e) exit =
 abbrev pub LimitFits : ℕ → ℕ → ℕ → List ℕ → Type 0
 LimitFits kind area direction values =
     (isSome (kindNumbered kind) ≡ true) × IsArea area × (isSome (directionNumbered direction) ≡ true)
-    × ((k : ℕ) → getD values k 0 ≤ 10000000)
+    × ((k : ℕ) → IsValue (getD values k 0))
 
 -- the limit of these numbers, with no marks yet
 abbrev pub NumberedLimit : ℕ → ℕ → ℕ → List ℕ → LimitFigures → Type 0
@@ -115,25 +107,25 @@ NumberedLimit kind area direction values l =
 
 abbrev pub AddsLimit : Calendar → ℕ → ℕ → ℕ → List ℕ → Result ℕ Refusal → Calendar → Type 0
 AddsLimit entry kind area direction values (Ok limit) exit =
-    LimitFits kind area direction values × (limit ≡ limitCount (figures entry) + 1) × (limit ≤ 48)
+    LimitFits kind area direction values × (limit ≡ limitCount (figures entry) + 1) × (limit ≤ most-limits)
     × ((l : LimitFigures) × NumberedLimit kind area direction values l × (figures exit ≡ withLimit (figures entry) l))
 AddsLimit entry kind area direction values (Err e) exit =
-    Refused e (LimitFits kind area direction values) (limitCount (figures entry) < 48) × (exit ≡ entry)
+    Refused e (LimitFits kind area direction values) (limitCount (figures entry) < most-limits) × (exit ≡ entry)
 
 abbrev pub SetsHours : Calendar → ℕ → ℕ → Result (Unit {0}) Refusal → Calendar → Type 0
 SetsHours entry month hours (Ok _) exit =
-    (IsMonth month × (hours ≤ 744)) × (figures exit ≡ withHours (figures entry) month hours)
+    (IsMonth month × IsHours hours) × (figures exit ≡ withHours (figures entry) month hours)
 SetsHours entry month hours (Err e) exit =
-    (IsMonth month × (hours ≤ 744) → ⊥) × (e ≡ CalendarValue) × (exit ≡ entry)
+    (IsMonth month × IsHours hours → ⊥) × (e ≡ CalendarValue) × (exit ≡ entry)
 
 abbrev pub SetsPayDay : Calendar → ℕ → ℕ → Result (Unit {0}) Refusal → Calendar → Type 0
 SetsPayDay entry month day (Ok _) exit =
-    (IsMonth month × (day ≤ 1000000)) × (figures exit ≡ withPayDay (figures entry) month day)
+    (IsMonth month × IsPayDay day) × (figures exit ≡ withPayDay (figures entry) month day)
 SetsPayDay entry month day (Err e) exit =
-    (IsMonth month × (day ≤ 1000000) → ⊥) × (e ≡ CalendarValue) × (exit ≡ entry)
+    (IsMonth month × IsPayDay day → ⊥) × (e ≡ CalendarValue) × (exit ≡ entry)
 
 abbrev pub SetsRelation : Calendar → ℕ → ℕ → Result (Unit {0}) Refusal → Calendar → Type 0
 SetsRelation entry limit row (Ok _) exit =
-    (HasLimit (figures entry) limit × (row < 2 ^ 30)) × (figures exit ≡ withRow (figures entry) limit row)
+    (HasLimit (figures entry) limit × IsRow row) × (figures exit ≡ withRow (figures entry) limit row)
 SetsRelation entry limit row (Err e) exit =
-    (HasLimit (figures entry) limit × (row < 2 ^ 30) → ⊥) × (e ≡ CalendarValue) × (exit ≡ entry)
+    (HasLimit (figures entry) limit × IsRow row → ⊥) × (e ≡ CalendarValue) × (exit ≡ entry)

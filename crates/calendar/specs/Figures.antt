@@ -63,10 +63,7 @@ figures c =
       months = map monthFigures (c .months);
     }
 
--- a month of the year, and the nodes and limits that there are
-abbrev pub IsMonth : ℕ → Type 0
-IsMonth month = (1 ≤ month) × (month ≤ 12)
-
+-- the nodes and limits that there are
 abbrev pub nodeCount : Figures → ℕ
 nodeCount f = length (f .nodes)
 

@@ -11,10 +11,12 @@ use lib.Signed.{ltZ}
 use Rattle.std.specs.declared.result.Result.{Result}
 use Rattle.std.specs.declared.result.Result.the-variants.{Ok, Err}
 use Rattle.terms.specs.Pairs.{pairNumber}
+use Rattle.terms.specs.Ranges.{counted-flow, most-references}
 use Rattle.terms.specs.declared.refusal.Refusal.{Refusal}
 use Rattle.terms.specs.declared.refusal.Refusal.the-variants.{References, Stray}
-use Rattle.calendar.specs.Calls.{IsArea, rerowed}
+use Rattle.calendar.specs.Calls.{rerowed}
 use Rattle.calendar.specs.Figures.{Figures, LimitFigures, figures, limitCount, limitOf, HasLimit, numbered, marked}
+use Rattle.calendar.specs.Values.{IsArea}
 use Rattle.calendar.specs.declared.calendar.Calendar.{Calendar}
 use Rattle.calendar.specs.declared.kinds.LimitKind.{LimitKind}
 use Rattle.calendar.specs.declared.kinds.LimitKind.the-variants.{Export, Import, Wheeling}
@@ -52,13 +54,13 @@ bindsOwn Import = true
 bindsOwn Wheeling = false
 
 abbrev pub strays : LimitFigures → Reference → ℤ → Bool
-strays l r flow = bindsOwn (l .kind) && (not (own l r) && not (ltZ flow (pos 100)))
+strays l r flow = bindsOwn (l .kind) && (not (own l r) && not (ltZ flow (pos counted-flow)))
 
 -- what of a flow counts: nothing of a negative one, and nothing below 100 kW at another's limit
 abbrev pub counted : Bool → ℤ → ℕ
 counted isOwn (negsuc n) = 0
 counted true (pos n) = n
-counted false (pos n) = cond (ltb n 100) 0 n
+counted false (pos n) = cond (ltb n counted-flow) 0 n
 
 -- f 0 + .. + f (n − 1)
 abbrev pub sumBelow : (ℕ → ℕ) → ℕ → ℕ
@@ -77,7 +79,7 @@ pairFlow f rs flows limit pair = sumBelow (share (limitOf f limit) (limitCount f
 -- references that a matrix can be built from
 abbrev pub GoodReferences : Figures → List Reference → List ℤ → Type 0
 GoodReferences f rs flows =
-    (1 ≤ length rs) × (length rs ≤ 300) × ((i : ℕ) → i < length rs → IsPair (referenceAt rs i))
+    (1 ≤ length rs) × (length rs ≤ most-references) × ((i : ℕ) → i < length rs → IsPair (referenceAt rs i))
     × (length flows ≡ length rs * limitCount f)
 
 -- whether the flow of the reference at place i strays at a limit

@@ -14,6 +14,7 @@ mod calls;
 mod doors;
 mod matrix;
 mod questions;
+mod writes;
 
 // A place of injection or withdrawal, with its price in each month.
 #[derive(Clone, Copy)]

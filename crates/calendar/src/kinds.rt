@@ -20,7 +20,7 @@ pub enum Direction {
 
 impl LimitKind {
     // The kind of this number: 1 export, 2 import, 3 wheeling.
-    pub fn numbered(number: u32) -> Result<LimitKind, Refusal>
+    pub(crate) fn numbered(number: u32) -> Result<LimitKind, Refusal>
         ensures { λ r. ⌜ r ≡ okOr (kindNumbered number) Refusal.CalendarValue ⌝ }
     {
         match number {
@@ -34,7 +34,7 @@ impl LimitKind {
 
 impl Direction {
     // The direction of this number: 1 southward, 2 northward.
-    pub fn numbered(number: u32) -> Result<Direction, Refusal>
+    pub(crate) fn numbered(number: u32) -> Result<Direction, Refusal>
         ensures { λ r. ⌜ r ≡ okOr (directionNumbered number) Refusal.CalendarValue ⌝ }
     {
         match number {

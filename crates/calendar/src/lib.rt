@@ -8,3 +8,6 @@ pub use calendar::Calendar;
 pub use kinds::Direction;
 pub use kinds::LimitKind;
 pub use reference::Reference;
+
+#[cfg(test)]
+mod tests;

@@ -6,7 +6,7 @@ const ROOM: usize = 128;
 
 // Text that is being made, in place.
 #[derive(Clone, Copy)]
-pub struct Text {
+pub(crate) struct Text {
     bytes: [u8; ROOM],
     len: usize,
     ghost within: { len ≤ 128 },

@@ -29,7 +29,7 @@ fn may_stand(lines: u32, at: usize, word: u32) -> bool
 }
 
 // Checks the whole form. A refusal has the place of the first word that breaks it, or one past the end.
-pub fn check_form(words: &[u32]) -> Result<(), Refusal>
+pub(crate) fn check_form(words: &[u32]) -> Result<(), Refusal>
     ensures { λ r. ⌜ Cases r (λ _. Submission (now (words .entry))) (λ e. RefusedForm (now (words .entry)) e) ⌝ }
 {
     let lines = payload_at(words, 0);

@@ -7,7 +7,7 @@ use crate::line::Line;
 
 // What a word says: its top four bits.
 #[derive(Clone, Copy)]
-pub enum Kind {
+pub(crate) enum Kind {
     // How many lines follow.
     Opening = 1,
     Holder = 2,
@@ -26,7 +26,7 @@ pub enum Kind {
 }
 
 impl Kind {
-    pub fn number(self) -> u32
+    pub(crate) fn number(self) -> u32
         ensures value { λ r. ⌜ r ≡ kindNumber self ⌝ }
         ensures bound { λ r. ⌜ r < 16 ⌝ }
     {
@@ -35,20 +35,20 @@ impl Kind {
 }
 
 // The number of a word's kind.
-pub fn kind_number(word: u32) -> u32
+pub(crate) fn kind_number(word: u32) -> u32
     ensures { λ r. ⌜ r ≡ kindOf word ⌝ }
 {
     word >> 28
 }
 
-pub fn payload(word: u32) -> u32
+pub(crate) fn payload(word: u32) -> u32
     ensures { λ r. ⌜ r ≡ payloadOf word ⌝ }
 {
     word & 0x0fff_ffff
 }
 
 // The word of a kind and a payload.
-pub fn join(kind: Kind, payload: u32) -> u32
+pub(crate) fn join(kind: Kind, payload: u32) -> u32
     requires { ⌜ payload < 2 ^ 28 ⌝ }
     ensures { λ r. ⌜ r ≡ wordOf (kindNumber kind) payload ⌝ }
 {
@@ -56,7 +56,7 @@ pub fn join(kind: Kind, payload: u32) -> u32
 }
 
 // Whether each field of the line fits its part of a payload.
-pub fn fits(line: &Line) -> bool
+pub(crate) fn fits(line: &Line) -> bool
     ensures { λ r. ⌜ Decides r (Fits (now (line .entry))) ⌝ }
 {
     line.holder < 1 << 28
@@ -70,7 +70,7 @@ pub fn fits(line: &Line) -> bool
 }
 
 // The eight words of a line that fits.
-pub fn words_of(line: &Line) -> [u32; 8]
+pub(crate) fn words_of(line: &Line) -> [u32; 8]
     requires { ⌜ Fits (now line) ⌝ }
     ensures { λ r. ⌜ r ≡ wordsOf (now (line .entry)) ⌝ }
 {
@@ -87,7 +87,7 @@ pub fn words_of(line: &Line) -> [u32; 8]
 }
 
 // The payload at the index `at`, or 0 past the end.
-pub fn payload_at(words: &[u32], at: usize) -> u32
+pub(crate) fn payload_at(words: &[u32], at: usize) -> u32
     ensures value { λ r. ⌜ r ≡ payloadOf (getD (now (words .entry)) at 0) ⌝ }
     ensures bound { λ r. ⌜ r < 2 ^ 28 ⌝ }
 {
@@ -106,7 +106,7 @@ fn amount_at(words: &[u32], at: usize) -> u64
 }
 
 // The line that eight words stand for.
-pub fn line_of(words: &[u32]) -> Line
+pub(crate) fn line_of(words: &[u32]) -> Line
     ensures { λ r. ⌜ r ≡ lineOf (now (words .entry)) ⌝ }
 {
     let nodes = payload_at(words, 1);

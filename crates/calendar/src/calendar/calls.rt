@@ -1,8 +1,7 @@
 ghost use mathlib.Core.Path.{_≡_};
-ghost use Prim.Native.Nat.{_+_, _<_, _≤_};
 ghost use Rattle.std.specs.Results.{Cases};
-ghost use Rattle.calendar.specs.Figures.{figures, limitFigures, nodeFigures};
-ghost use Rattle.calendar.specs.Calls.{AddsLimit, AddsNode, emptyFigures, LimitFits, NumberedLimit, repriced, rerowed, SetsHours, SetsPayDay, SetsPrice, SetsRelation, withRow};
+ghost use Rattle.calendar.specs.Figures.{figures, limitFigures};
+ghost use Rattle.calendar.specs.Calls.{AddsLimit, AddsNode, emptyFigures, LimitFits, NumberedLimit, SetsHours, SetsPayDay, SetsPrice, SetsRelation};
 use super::Calendar;
 use super::Limit;
 use super::Month;
@@ -54,16 +53,15 @@ impl Calendar {
         ensures { λ r. ⌜ AddsNode (now (self .entry)) area r (now (self .exit)) ⌝ }
     {
         let area = Area::new(area).ok_or(Refusal::CalendarValue)?;
-        let number = self.node_count();
-        if number >= terms::MOST_NODES {
+        let place = self.node_rows();
+        if place >= terms::MOST_NODES as usize {
             return Err(Refusal::CalendarFull);
         }
-        self.nodes[number as usize] = Node {
+        self.push_node(Node {
             area,
             prices: [Price::NONE; 12],
-        };
-        self.node_count += 1;
-        Ok(number)
+        });
+        Ok(place as u32)
     }
 
     // Sets a node's price in a month.
@@ -73,7 +71,7 @@ impl Calendar {
         let place = self.node_place(node)?;
         let month = month_place(month)?;
         let price = Price::new(price)?;
-        self.nodes[place] = self.nodes[place].with_price(month, price);
+        self.put_price(place, month, price);
         Ok(())
     }
 
@@ -88,13 +86,12 @@ impl Calendar {
         ensures { λ r. ⌜ AddsLimit (now (self .entry)) kind area direction values r (now (self .exit)) ⌝ }
     {
         let limit = Limit::numbered(kind, area, direction, &values)?;
-        let count = self.limit_count();
-        if count >= terms::MOST_LIMITS {
+        let place = self.limit_rows();
+        if place >= terms::MOST_LIMITS as usize {
             return Err(Refusal::CalendarFull);
         }
-        self.limits[count as usize] = limit;
-        self.limit_count += 1;
-        Ok(count + 1)
+        self.push_limit(limit);
+        Ok(place as u32 + 1)
     }
 
     // Sets the hours of a month.
@@ -103,10 +100,7 @@ impl Calendar {
     {
         let place = month_place(month)?;
         let hours = Hours::new(hours)?;
-        self.months[place] = Month {
-            hours,
-            pay_day: self.months[place].pay_day,
-        };
+        self.put_hours(place, hours);
         Ok(())
     }
 
@@ -116,10 +110,7 @@ impl Calendar {
     {
         let place = month_place(month)?;
         let pay_day = PayDay::new(day)?;
-        self.months[place] = Month {
-            hours: self.months[place].hours,
-            pay_day,
-        };
+        self.put_pay_day(place, pay_day);
         Ok(())
     }
 
@@ -129,31 +120,8 @@ impl Calendar {
     {
         let place = self.limit_place(limit)?;
         let row = RelationRow::new(row)?;
-        self.set_row(place, row);
+        self.put_row(place, row);
         Ok(())
-    }
-
-    // Sets the row of the limit at a place.
-    pub(super) fn set_row(&mut self, place: usize, row: RelationRow)
-        requires { ⌜ place < now self .«limit_count» ⌝ }
-        ensures { λ _. ⌜ figures (now (self .exit)) ≡ withRow (figures (now (self .entry))) (place + 1) (row .bits) ⌝ }
-    {
-        self.limits[place] = self.limits[place].with_row(row);
-    }
-}
-
-impl Node {
-    // This node with another price in the month at this place.
-    fn with_price(self, month: usize, price: Price) -> Node
-        requires { ⌜ month < 12 ⌝ }
-        ensures { λ r. ⌜ nodeFigures r ≡ repriced (month + 1) (price .thousandths) (nodeFigures self) ⌝ }
-    {
-        let mut prices = self.prices;
-        prices[month] = price;
-        Node {
-            area: self.area,
-            prices,
-        }
     }
 }
 
@@ -169,12 +137,5 @@ impl Limit {
             values: Capacity::of_months(values)?,
             row: RelationRow::NONE,
         })
-    }
-
-    // This limit with another relation row.
-    pub fn with_row(self, row: RelationRow) -> Limit
-        ensures { λ r. ⌜ limitFigures r ≡ rerowed (row .bits) (limitFigures self) ⌝ }
-    {
-        Limit { row, ..self }
     }
 }

@@ -1,7 +1,8 @@
 ghost use mathlib.Core.Path.{_≡_};
 ghost use Prim.Native.Nat.{_+_, _<_, _≤_};
 ghost use Rattle.std.specs.Results.{Cases};
-ghost use Rattle.calendar.specs.Figures.{figures, HasLimit, HasNode, IsMonth, limitCount, limitFigures, limitOf, monthFigures, monthOf, nodeCount, nodeFigures, nodeOf};
+ghost use Rattle.calendar.specs.Figures.{figures, HasLimit, HasNode, limitCount, limitFigures, limitOf, monthFigures, monthOf, nodeCount, nodeFigures, nodeOf};
+ghost use Rattle.calendar.specs.Values.{IsMonth};
 use super::Calendar;
 use super::Limit;
 use super::Month;
@@ -23,38 +24,56 @@ impl Calendar {
     pub fn node_count(&self) -> u32
         ensures value { λ r. ⌜ r ≡ nodeCount (figures (now (self .entry))) ⌝ }
         ensures bound { λ r. ⌜ r ≤ 64 ⌝ }
-        ensures used { λ r. ⌜ r ≡ now (self .entry) .«node_count» ⌝ }
     {
-        self.node_count as u32
+        self.node_rows() as u32
     }
 
     // How many limits there are.
     pub fn limit_count(&self) -> u32
         ensures value { λ r. ⌜ r ≡ limitCount (figures (now (self .entry))) ⌝ }
         ensures bound { λ r. ⌜ r ≤ 48 ⌝ }
-        ensures used { λ r. ⌜ r ≡ now (self .entry) .«limit_count» ⌝ }
     {
-        self.limit_count as u32
+        self.limit_rows() as u32
+    }
+
+    // How many rows are nodes.
+    pub(super) fn node_rows(&self) -> usize
+        ensures value { λ r. ⌜ r ≡ nodeCount (figures (now (self .entry))) ⌝ }
+        ensures bound { λ r. ⌜ r ≤ 64 ⌝ }
+        ensures rows { λ r. ⌜ r ≡ now (self .entry) .«node_count» ⌝ }
+    {
+        self.node_count
+    }
+
+    // How many rows are limits.
+    pub(super) fn limit_rows(&self) -> usize
+        ensures value { λ r. ⌜ r ≡ limitCount (figures (now (self .entry))) ⌝ }
+        ensures bound { λ r. ⌜ r ≤ 48 ⌝ }
+        ensures rows { λ r. ⌜ r ≡ now (self .entry) .«limit_count» ⌝ }
+    {
+        self.limit_count
     }
 
     // The place of a node.
     pub(super) fn node_place(&self, node: u32) -> Result<usize, Refusal>
         ensures { λ r. ⌜ Cases r (λ i. (i ≡ node) × (i < now (self .entry) .«node_count») × HasNode (figures (now (self .entry))) node) (λ e. (e ≡ Refusal.CalendarValue) × (HasNode (figures (now (self .entry))) node → ⊥)) ⌝ }
     {
-        if node >= self.node_count() {
+        let place = node as usize;
+        if place >= self.node_rows() {
             return Err(Refusal::CalendarValue);
         }
-        Ok(node as usize)
+        Ok(place)
     }
 
     // The place of a limit.
     pub(super) fn limit_place(&self, limit: u32) -> Result<usize, Refusal>
         ensures { λ r. ⌜ Cases r (λ i. (i + 1 ≡ limit) × (i < now (self .entry) .«limit_count») × HasLimit (figures (now (self .entry))) limit) (λ e. (e ≡ Refusal.CalendarValue) × (HasLimit (figures (now (self .entry))) limit → ⊥)) ⌝ }
     {
-        if limit < 1 || limit > self.limit_count() {
+        let number = limit as usize;
+        if number < 1 || number > self.limit_rows() {
             return Err(Refusal::CalendarValue);
         }
-        Ok(limit as usize - 1)
+        Ok(number - 1)
     }
 
     // The node of this number.

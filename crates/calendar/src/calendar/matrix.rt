@@ -82,7 +82,7 @@ impl Calendar {
                 return Err(Refusal::References);
             }
         }
-        if flows.len() != references.len() * self.limit_count() as usize {
+        if flows.len() != references.len() * self.limit_rows() {
             return Err(Refusal::References);
         }
         Ok(())
@@ -105,7 +105,7 @@ impl Calendar {
         if !reference.is_of(pair) {
             return 0;
         }
-        let flow = flow(flows, self.limit_count() as usize, place, limit);
+        let flow = flow(flows, self.limit_rows(), place, limit);
         self.limit_at(limit).counted(reference, flow)
     }
 
@@ -139,7 +139,7 @@ impl Calendar {
         requires { ⌜ limit < limitCount (figures (now self)) ⌝ ∗ ⌜ place < length (now references) ⌝ ∗ ⌜ GoodReferences (figures (now self)) (now references) (now flows) ⌝ }
         ensures { λ r. ⌜ r ≡ straysAt (figures (now (self .entry))) (now (references .entry)) (now (flows .entry)) place (limit + 1) ⌝ }
     {
-        let flow = flow(flows, self.limit_count() as usize, place, limit);
+        let flow = flow(flows, self.limit_rows(), place, limit);
         self.limit_at(limit).strays(references[place], flow)
     }
 
@@ -148,9 +148,9 @@ impl Calendar {
         requires { ⌜ place < length (now references) ⌝ ∗ ⌜ GoodReferences (figures (now self)) (now references) (now flows) ⌝ }
         ensures { λ r. ⌜ BySome r (StraysNowhere (figures (now (self .entry))) (now (references .entry)) (now (flows .entry)) place) (λ limit. StraysFirstAt (figures (now (self .entry))) (now (references .entry)) (now (flows .entry)) place limit) ⌝ }
     {
-        for limit in 0..self.limit_count() {
-            if self.strays_at(references, flows, place, limit as usize) {
-                return Some(limit + 1);
+        for limit in 0..self.limit_rows() {
+            if self.strays_at(references, flows, place, limit) {
+                return Some(limit as u32 + 1);
             }
         }
         None
@@ -175,10 +175,10 @@ impl Calendar {
         requires { ⌜ GoodReferences (figures (now self)) (now references) (now flows) ⌝ }
         ensures { λ _. ⌜ RowsSet (figures (now (self .entry))) (now (references .entry)) (now (flows .entry)) (limitCount (figures (now (self .entry)))) (figures (now (self .exit))) ⌝ }
     {
-        let count = self.limit_count() as usize;
+        let count = self.limit_rows();
         for limit in 0..count {
             let row = self.row(references, flows, limit);
-            self.set_row(limit, row);
+            self.put_row(limit, row);
         }
     }
 

@@ -5,8 +5,10 @@ ghost use lib.ListN.{getD};
 ghost use lib.Signed.{_≤ℤ_};
 ghost use Rattle.std.specs.Results.{Cases};
 ghost use Rattle.std.specs.Vec.{made};
-ghost use Rattle.calendar.specs.Figures.{areaOf, figures, HasLimit, HasNode, hours as hoursOf, IsMonth, limitFigures, limitOf, nodeFigures, marked, payDay, price as priceOf, value as valueOf};
+ghost use Rattle.calendar.specs.Figures.{areaOf, figures, HasLimit, HasNode, hours as hoursOf, limitFigures, limitOf, nodeFigures, marked, payDay, price as priceOf, value as valueOf};
+ghost use Rattle.calendar.specs.InRange.{InRange};
 ghost use Rattle.calendar.specs.Questions.{Answers};
+ghost use Rattle.calendar.specs.Values.{IsHours, IsMonth, IsPayDay, IsPrice, IsRow, IsValue};
 use super::Calendar;
 use super::Limit;
 use super::Node;
@@ -17,6 +19,11 @@ use terms::Area;
 use terms::Refusal;
 
 impl Calendar {
+    // Nothing in a calendar is beyond its range, whatever was called on it. This is so by its types: there is nothing to do.
+    pub fn stays_in_range(&self)
+        ensures { λ _. ⌜ InRange (figures (now (self .entry))) ⌝ }
+    {}
+
     // A node's area.
     pub fn area(&self, node: u32) -> Result<Area, Refusal>
         ensures { λ r. ⌜ Cases r (λ a. HasNode (figures (now (self .entry))) node × (a .number ≡ areaOf (figures (now (self .entry))) node)) (λ e. (HasNode (figures (now (self .entry))) node → ⊥) × (e ≡ Refusal.CalendarValue)) ⌝ }
@@ -27,7 +34,7 @@ impl Calendar {
     // A node's price in a month, in thousandths of a dollar for a megawatt-hour.
     pub fn price(&self, node: u32, month: u32) -> Result<i32, Refusal>
         ensures value { λ r. ⌜ Answers (HasNode (figures (now (self .entry))) node × IsMonth month) (priceOf (figures (now (self .entry))) node month) r ⌝ }
-        ensures range { λ r. ⌜ made r (λ p. (negsuc 999999 ≤ℤ p) × (p ≤ℤ pos 1000000)) ⌝ }
+        ensures range { λ r. ⌜ made r IsPrice ⌝ }
     {
         let node = self.node(node)?;
         let place = month_place(month)?;
@@ -37,7 +44,7 @@ impl Calendar {
     // The hours of a month.
     pub fn hours(&self, month: u32) -> Result<u32, Refusal>
         ensures value { λ r. ⌜ Answers (IsMonth month) (hoursOf (figures (now (self .entry))) month) r ⌝ }
-        ensures range { λ r. ⌜ made r (λ h. h ≤ 744) ⌝ }
+        ensures range { λ r. ⌜ made r IsHours ⌝ }
     {
         Ok(self.month(month)?.hours.count())
     }
@@ -45,7 +52,7 @@ impl Calendar {
     // The day on which a month's instalments are due.
     pub fn pay_day(&self, month: u32) -> Result<u32, Refusal>
         ensures value { λ r. ⌜ Answers (IsMonth month) (payDay (figures (now (self .entry))) month) r ⌝ }
-        ensures range { λ r. ⌜ made r (λ d. d ≤ 1000000) ⌝ }
+        ensures range { λ r. ⌜ made r IsPayDay ⌝ }
     {
         Ok(self.month(month)?.pay_day.day())
     }
@@ -74,7 +81,7 @@ impl Calendar {
     // A limit's value in a month, in kilowatts.
     pub fn value(&self, limit: u32, month: u32) -> Result<u32, Refusal>
         ensures value { λ r. ⌜ Answers (HasLimit (figures (now (self .entry))) limit × IsMonth month) (valueOf (figures (now (self .entry))) limit month) r ⌝ }
-        ensures range { λ r. ⌜ made r (λ v. v ≤ 10000000) ⌝ }
+        ensures range { λ r. ⌜ made r IsValue ⌝ }
     {
         let limit = self.limit(limit)?;
         let place = month_place(month)?;
@@ -84,7 +91,7 @@ impl Calendar {
     // A limit's relation row: bit j is the mark of pair j.
     pub fn relation(&self, limit: u32) -> Result<u32, Refusal>
         ensures value { λ r. ⌜ Answers (HasLimit (figures (now (self .entry))) limit) (limitOf (figures (now (self .entry))) limit .row) r ⌝ }
-        ensures range { λ r. ⌜ made r (λ row. row < 2 ^ 30) ⌝ }
+        ensures range { λ r. ⌜ made r IsRow ⌝ }
     {
         Ok(self.limit(limit)?.row.bits())
     }
@@ -106,7 +113,7 @@ impl Node {
     fn price(self, place: usize) -> i32
         requires { ⌜ place < 12 ⌝ }
         ensures value { λ r. ⌜ r ≡ getD (nodeFigures self .prices) place (pos 0) ⌝ }
-        ensures range { λ r. ⌜ (negsuc 999999 ≤ℤ r) × (r ≤ℤ pos 1000000) ⌝ }
+        ensures range { λ r. ⌜ IsPrice r ⌝ }
     {
         self.prices[place].thousandths()
     }
@@ -117,7 +124,7 @@ impl Limit {
     fn value(self, place: usize) -> u32
         requires { ⌜ place < 12 ⌝ }
         ensures value { λ r. ⌜ r ≡ getD (limitFigures self .values) place 0 ⌝ }
-        ensures range { λ r. ⌜ r ≤ 10000000 ⌝ }
+        ensures range { λ r. ⌜ IsValue r ⌝ }
     {
         self.values[place].kilowatts()
     }

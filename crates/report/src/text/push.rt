@@ -9,7 +9,7 @@ use super::Text;
 use terms::Refusal;
 
 impl Text {
-    pub fn new() -> Text
+    pub(crate) fn new() -> Text
         ensures text { λ r. ⌜ held r ≡ [] ⌝ }
         ensures len { λ r. ⌜ r .len ≡ 0 ⌝ }
     {
@@ -20,7 +20,7 @@ impl Text {
     }
 
     // One byte more.
-    pub fn push(&mut self, byte: u8)
+    pub(crate) fn push(&mut self, byte: u8)
         requires { ⌜ now self .len < 128 ⌝ }
         ensures text { λ _. ⌜ held (now (self .exit)) ≡ held (now (self .entry)) ++ byte ∷ [] ⌝ }
         ensures len { λ _. ⌜ now (self .exit) .len ≡ now (self .entry) .len + 1 ⌝ }
@@ -30,7 +30,7 @@ impl Text {
     }
 
     // Some bytes more.
-    pub fn push_all(&mut self, bytes: &[u8])
+    pub(crate) fn push_all(&mut self, bytes: &[u8])
         requires { ⌜ now self .len + length (now bytes) ≤ 128 ⌝ }
         ensures text { λ _. ⌜ held (now (self .exit)) ≡ held (now (self .entry)) ++ now (bytes .entry) ⌝ }
         ensures len { λ _. ⌜ now (self .exit) .len ≡ now (self .entry) .len + length (now (bytes .entry)) ⌝ }
@@ -41,7 +41,7 @@ impl Text {
     }
 
     // A number in decimal.
-    pub fn push_number(&mut self, n: u64)
+    pub(crate) fn push_number(&mut self, n: u64)
         requires { ⌜ now self .len + length (decimal n) ≤ 128 ⌝ }
         ensures text { λ _. ⌜ held (now (self .exit)) ≡ held (now (self .entry)) ++ decimal n ⌝ }
         ensures len { λ _. ⌜ now (self .exit) .len ≡ now (self .entry) .len + length (decimal n) ⌝ }
@@ -55,7 +55,7 @@ impl Text {
     }
 
     // A space and a number.
-    pub fn push_spaced(&mut self, n: u64)
+    pub(crate) fn push_spaced(&mut self, n: u64)
         requires { ⌜ now self .len + 21 ≤ 128 ⌝ }
         ensures text { λ _. ⌜ held (now (self .exit)) ≡ held (now (self .entry)) ++ spaced n ⌝ }
         ensures len { λ _. ⌜ now (self .exit) .len ≤ now (self .entry) .len + 21 ⌝ }
@@ -65,7 +65,7 @@ impl Text {
     }
 
     // Copies the text to the front of `out`.
-    pub fn copy_to(&self, out: &mut [u8]) -> Result<usize, Refusal>
+    pub(crate) fn copy_to(&self, out: &mut [u8]) -> Result<usize, Refusal>
         ensures { λ r. ⌜ Puts (held (now (self .entry))) (now (out .entry)) (now (out .exit)) r ⌝ }
     {
         if out.len() < self.len {

@@ -8,6 +8,6 @@ use Rattle.calendar.proofs.calendar.Calendar.share.Needs as need
 
 pub flow-flow-requires : need.flow-flow-requires
 flow-flow-requires c κs =
-    let e : c .limit-count .result ≡ limitCount (figures (c .args .self .now)) = c .limit-count .ensures .value in
-    let h : c .args .limit < c .limit-count .result = omega (arith, c .pre .0) in
-    flow-within (c .args .place) (c .limit-count .result) (c .args .limit) (length (c .args .references .now)) _ _ (c .pre .1 .0) h e (c .pre .1 .1 .3)
+    let e : c .limit-rows .result ≡ limitCount (figures (c .args .self .now)) = c .limit-rows .ensures .value in
+    let h : c .args .limit < c .limit-rows .result = omega (arith, c .pre .0) in
+    flow-within (c .args .place) (c .limit-rows .result) (c .args .limit) (length (c .args .references .now)) _ _ (c .pre .1 .0) h e (c .pre .1 .1 .3)

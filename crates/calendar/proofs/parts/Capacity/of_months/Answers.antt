@@ -6,7 +6,7 @@ use borrow.Author.Needs.{needs}
 use native.Mathlib.Omega.{arith}
 use Rattle.std.proofs.shelf.Lists.{ext-getD, getD-map, length-map}
 use Rattle.calendar.specs.declared.parts.Capacity.{Capacity}
-use Rattle.calendar.proofs.Capacities.{capacities-most}
+use Rattle.calendar.proofs.Ranged.{values-in-range}
 use Rattle.calendar.proofs.parts.Capacity.of_months.Needs as need
 
 pub returns : need.returns
@@ -22,4 +22,4 @@ returns c =
     (λ i h.
     let k : i < length cs = omega (arith, length-map cs kilowatts) in
     getD-map kilowatts cs i none 0 k ∙ c .loop-place .inv .1 i none (omega arith)) in
-    (e, λ k. subst (λ xs. getD xs k 0 ≤ 10000000) e (capacities-most cs k))
+    (e, λ k. subst (λ xs. getD xs k 0 ≤ 10000000) e (values-in-range cs k))

@@ -1,0 +1,5 @@
+mod FirstRow
+mod Products
+mod Ranges
+mod Totals
+mod Worst
