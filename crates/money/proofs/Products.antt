@@ -24,3 +24,7 @@ product-fits (negsuc a) e l h k =
 -- the product of what the code holds
 pub product-held : (z : ℤ) (e : ℕ) → SFits w64 z → e < 2 ^ 63 → toZ w64 (ofZ w64 z) *ℤ toZ w64 e ≡ z *ℤ pos e
 product-held z e f h = ap (λ x. x *ℤ toZ w64 e) (toZ-ofZ w64 z f) ∙ ap (λ y. z *ℤ y) (toZ-pos w64 e h)
+
+-- the energy of a power in the hours of a month
+pub energy-most : (e power hours : ℕ) → e ≡ power * hours → power < 2 ^ 32 → hours ≤ 744 → e ≤ 4294967295 * 744
+energy-most e power hours s p h = let q : power ≤ 4294967295 = omega arith in omega (arith, mul-le power hours 4294967295 744 q h)

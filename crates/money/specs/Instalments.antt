@@ -1,9 +1,9 @@
 -- The instalments of a charge.
 use mathlib.Core.Path.{_≡_}
 use mathlib.Core.Bool.{cond}
-use Prim.Native.Nat.{ℕ, _+_, _-_, _/_, _%_, _<_, _≤_}
+use Prim.Native.Nat.{ℕ, _+_, _-_, _/_, _%_, _≤_}
 use lib.Dec.{ltb}
-use Rattle.money.specs.Months.{monthCount, IsValid, sum}
+use Rattle.money.specs.Months.{monthCount, sum}
 
 -- the instalment of a valid month: the whole quotient, and a cent more in the lowest months until the remainder is used
 abbrev pub instalment : ℕ → ℕ → ℕ → ℕ → ℕ

@@ -1,10 +1,15 @@
 -- The valid months of a right, first to last, and what is summed up over them.
-use mathlib.Core.Bool.{Bool, false, _||_}
+use mathlib.Core.Bool.{Bool, false, _&&_, _||_}
 use Prim.Native.Nat.{ℕ, zero, suc, _+_, _-_, _≤_}
+use lib.Dec.{leb}
 
 -- how many months first to last are
 abbrev pub monthCount : ℕ → ℕ → ℕ
 monthCount first last = last - first + 1
+
+-- whether first to last are months of the year
+abbrev pub isSpan : ℕ → ℕ → Bool
+isSpan first last = leb 1 first && (leb first last && leb last 12)
 
 abbrev pub IsValid : ℕ → ℕ → ℕ → Type 0
 IsValid first last month = (first ≤ month) × (month ≤ last)

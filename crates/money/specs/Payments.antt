@@ -5,7 +5,7 @@ use Prim.Native.Nat.{ℕ, _+_, _-_, _<_, _≤_, min}
 use lib.Dec.{ltb}
 use Rattle.calendar.specs.Figures.{Figures, payDay}
 use Rattle.money.specs.declared.dues.Instalment.{Instalment}
-use Rattle.money.specs.Months.{monthCount, IsValid, sum, someMonth}
+use Rattle.money.specs.Months.{isSpan, monthCount, IsValid, sum, someMonth}
 use Rattle.money.specs.Instalments.{instalment, earlier}
 
 -- what of the payments is in a month's instalment: the lower months are filled first
@@ -39,11 +39,12 @@ abbrev pub late : Figures → ℕ → ℕ → ℕ → ℕ → ℕ → ℕ → Bo
 late cal charge paid first last day month =
     ltb 0 (lack charge paid first last month) && ltb (payDay cal month) day
 
--- whether a valid month is late
+-- whether a valid month is late; months that are none of the year never are
 abbrev pub overdue : Figures → ℕ → ℕ → ℕ → ℕ → ℕ → Bool
-overdue cal charge paid first last day = someMonth (late cal charge paid first last day) first (monthCount first last)
+overdue cal charge paid first last day =
+    isSpan first last && someMonth (late cal charge paid first last day) first (monthCount first last)
 
--- the same, of some month
+-- some valid month's instalment lacks something, and the day is past its pay day
 abbrev pub Overdue : Figures → ℕ → ℕ → ℕ → ℕ → ℕ → Type 0
 Overdue cal charge paid first last day =
     (month : ℕ)

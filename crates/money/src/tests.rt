@@ -11,6 +11,22 @@ fn months(first: u32, last: u32) -> Result<MonthSpan, Refusal> {
 }
 
 #[test]
+fn spans() -> Result<(), Fail> {
+    // first, last, whether they are months of the year in order
+    let cases = [
+        (1, 12, true),
+        (12, 12, true),
+        (0, 1, false),
+        (3, 2, false),
+        (12, 13, false),
+    ];
+    for (first, last, stands) in cases.iter() {
+        check_eq(MonthSpan::new(*first, *last).is_some(), *stands)?;
+    }
+    Ok(())
+}
+
+#[test]
 fn guarantees() -> Result<(), Fail> {
     // last month, offer, guarantee
     let cases = [
@@ -34,6 +50,7 @@ fn instalments() -> Result<(), Fail> {
         (3, 100, 0, 100, [34, 33, 33], [34, 33, 33]),
         (3, 100, 34, 66, [34, 33, 33], [0, 33, 33]),
         (3, 100, 50, 50, [34, 33, 33], [0, 17, 33]),
+        (3, 100, 100, 0, [34, 33, 33], [0, 0, 0]),
         (3, 100, 101, 0, [34, 33, 33], [0, 0, 0]),
         (3, 0, 0, 0, [0, 0, 0], [0, 0, 0]),
         (12, 26, 0, 26, [3, 3, 2], [3, 3, 2]),
@@ -45,13 +62,14 @@ fn instalments() -> Result<(), Fail> {
             paid: *paid,
         };
         check_eq(dues.debt(), *debt)?;
+        check(dues.instalment(*last + 1).is_none())?;
         for month in 1..4 {
             let instalment = dues.instalment(month).ok_or(Refusal::Unknown)?;
             check_eq(instalment.amount, amounts[month as usize - 1])?;
             check_eq(instalment.lacking, lacks[month as usize - 1])?;
         }
     }
-    check(months(2, 3)?.contains(2))
+    Ok(())
 }
 
 // Nodes 0 and 1 at 50,000 and 60,000 in every month but month 2, where the prices are exchanged.

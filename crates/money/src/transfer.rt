@@ -1,6 +1,6 @@
 ghost use mathlib.Core.Path.{_≡_};
 ghost use Prim.Native.Nat.{_*_, _≤_};
-ghost use lib.IntN.{pos, negsuc, _*ℤ_};
+ghost use lib.IntN.{pos, negsuc, _-ℤ_, _*ℤ_};
 ghost use lib.Signed.{_≤ℤ_};
 ghost use Rattle.std.specs.Orderings.{Decides};
 ghost use Rattle.std.specs.Vec.{made};
@@ -50,11 +50,15 @@ impl Transfer {
     {
         let withdrawal = calendar.price(self.withdrawal, month)?;
         let injection = calendar.price(self.injection, month)?;
-        let hours = calendar.hours(month)?;
-        Ok(worth(
-            withdrawal as i64 - injection as i64,
-            self.power as u64 * hours as u64,
-        ))
+        let energy = self.energy(calendar.hours(month)?);
+        Ok(worth(difference(withdrawal, injection), energy))
+    }
+
+    // The kilowatt-hours of so many hours.
+    fn energy(self, hours: u32) -> u64
+        ensures { λ r. ⌜ r ≡ self .power * hours ⌝ }
+    {
+        self.power as u64 * hours as u64
     }
 }
 
@@ -63,6 +67,13 @@ fn cut(sum: i128) -> u128
     ensures { λ r. ⌜ r ≡ cutOf sum ⌝ }
 {
     if sum < 0 { 0 } else { sum as u128 }
+}
+
+// How far the withdrawal price is above the injection price.
+fn difference(withdrawal: i32, injection: i32) -> i64
+    ensures { λ r. ⌜ r ≡ withdrawal -ℤ injection ⌝ }
+{
+    withdrawal as i64 - injection as i64
 }
 
 // A difference of prices times an energy in kilowatt-hours.
