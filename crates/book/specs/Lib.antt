@@ -1,0 +1,17 @@
+pub mod Refusing
+pub mod Rows
+pub mod Market
+pub mod Lines
+pub mod Forms
+pub mod Rights
+pub mod Loads
+pub mod States
+pub mod Checks
+pub mod Calls
+pub mod Events
+pub mod Histories
+pub mod Findings
+pub mod Views
+pub mod Tables
+pub mod Results
+pub mod Questions
