@@ -3,6 +3,7 @@ ghost use mathlib.Core.List.{_++_};
 ghost use lib.Chars.{codes};
 ghost use Prim.Native.Nat.{_+_, _≤_};
 ghost use lib.ListN.{length};
+ghost use Rattle.std.specs.Vec.{made};
 ghost use Rattle.report.specs.Texts.{held, spaced, fiveNumbers, verdictText, lineText, Puts};
 use crate::text::Text;
 use crate::verdict::Verdict;
@@ -62,6 +63,7 @@ fn line(verdict: Verdict) -> Text
 pub fn write_line(verdict: Verdict, out: &mut [u8]) -> Result<usize, Refusal>
     ensures line { λ r. ⌜ Puts (lineText verdict) (now (out .entry)) (now (out .exit)) r ⌝ }
     ensures room { λ _. ⌜ length (lineText verdict) ≤ 128 ⌝ }
+    ensures within { λ r. ⌜ made r (λ n. n ≤ length (now (out .exit))) ⌝ }
 {
     line(verdict).copy_to(out)
 }

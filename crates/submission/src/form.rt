@@ -1,4 +1,5 @@
-ghost use Prim.Native.Nat.{_^_, _<_};
+ghost use mathlib.Core.Path.{_≡_};
+ghost use Prim.Native.Nat.{_+_, _^_, _<_};
 ghost use Rattle.std.specs.Orderings.{Decides};
 ghost use Rattle.std.specs.Results.{Cases};
 ghost use Rattle.submission.specs.Places.{Stands};
@@ -28,6 +29,14 @@ fn may_stand(lines: u32, at: usize, word: u32) -> bool
     }
 }
 
+// The refusal of the word at an index, whose place is counted from 1.
+fn broken_at(index: usize) -> Refusal
+    requires { ⌜ index + 1 < 2 ^ 64 ⌝ }
+    ensures { λ r. ⌜ r ≡ Refusal.Form (index + 1) ⌝ }
+{
+    Refusal::Form { place: index + 1 }
+}
+
 // Checks the whole form. A refusal has the place of the first word that breaks it, or one past the end.
 pub(crate) fn check_form(words: &[u32]) -> Result<(), Refusal>
     ensures { λ r. ⌜ Cases r (λ _. Submission (now (words .entry))) (λ e. RefusedForm (now (words .entry)) e) ⌝ }
@@ -35,13 +44,11 @@ pub(crate) fn check_form(words: &[u32]) -> Result<(), Refusal>
     let lines = payload_at(words, 0);
     for (i, word) in words.iter().enumerate() {
         if !may_stand(lines, i, *word) {
-            return Err(Refusal::Form { place: i + 1 });
+            return Err(broken_at(i));
         }
     }
     if words.len() != 8 * lines as usize + 2 {
-        return Err(Refusal::Form {
-            place: words.len() + 1,
-        });
+        return Err(broken_at(words.len()));
     }
     Ok(())
 }

@@ -2,6 +2,7 @@ ghost use mathlib.Core.Path.{_≡_};
 ghost use mathlib.Core.List.{[], _∷_, _++_};
 ghost use Prim.Native.Nat.{_+_, _<_, _≤_};
 ghost use lib.ListN.{length};
+ghost use Rattle.std.specs.Vec.{made};
 ghost use Rattle.std.specs.Written.{decimal};
 ghost use Rattle.report.specs.Texts.{held, spaced, Puts};
 use super::ROOM;
@@ -66,7 +67,8 @@ impl Text {
 
     // Copies the text to the front of `out`.
     pub(crate) fn copy_to(&self, out: &mut [u8]) -> Result<usize, Refusal>
-        ensures { λ r. ⌜ Puts (held (now (self .entry))) (now (out .entry)) (now (out .exit)) r ⌝ }
+        ensures text { λ r. ⌜ Puts (held (now (self .entry))) (now (out .entry)) (now (out .exit)) r ⌝ }
+        ensures within { λ r. ⌜ made r (λ n. n ≤ length (now (out .exit))) ⌝ }
     {
         if out.len() < self.len {
             return Err(Refusal::Unwritable);

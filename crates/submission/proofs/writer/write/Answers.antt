@@ -26,4 +26,4 @@ pub returns : need.returns
 returns c = written (c .args .lines .now) (c .args .out .now) _ _
     (record { some = omega arith; few = omega arith; fit = c .if-not-all-fit .ensures tt .0 refl })
     (omega (arith, length-encode (c .args .lines .now)))
-    (last (c .args .lines .now) (c .loop-i .i) (c .join .result) (c .join-2 .result) (c .args .out .now) (c .loop-i .out) (omega arith) (omega arith) (c .loop-i .inv) (omega arith))
+    (last (c .args .lines .now) (c .loop-i .i) (c .join .result) (c .closing-word .result) (c .args .out .now) (c .loop-i .out) (omega arith) (omega arith) (c .loop-i .inv) (omega arith))
