@@ -1,4 +1,6 @@
 // Reads a submission from standard input and writes one line: whether it is well-formed.
+#![tactic(auto)]
+
 ghost use Rattle.std.specs.Prelude.{◌≤◌, length, IfOk};
 
 use report::{DECIDING_BYTES, LONGEST_LINE, answer};

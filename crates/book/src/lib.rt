@@ -1,4 +1,6 @@
 // The book: rights sold and proposed, what is paid and held on them, and what every history of calls keeps.
+#![tactic(auto)]
+
 mod answers;
 mod award;
 mod book;

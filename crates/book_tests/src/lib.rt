@@ -1,4 +1,6 @@
 // Tests of the book, in a crate of their own.
+#![tactic(auto)]
+
 #[cfg(test)]
 mod asking;
 #[cfg(test)]

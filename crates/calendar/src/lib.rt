@@ -1,4 +1,6 @@
 // The calendar: nodes with prices, transfer limits with monthly values and relation rows, and months.
+#![tactic(auto)]
+
 mod calendar;
 mod kinds;
 mod parts;

@@ -1,4 +1,6 @@
 // The worked example of the market: its calendar, its node table, and what a book answers on them.
+#![tactic(auto)]
+
 mod program;
 mod theorem;
 mod worked_calendar;

@@ -1,4 +1,6 @@
 // Factor sources, use rules, and the worst case over every choice of uses.
+#![tactic(auto)]
+
 mod load;
 mod node_table;
 mod pair_list;

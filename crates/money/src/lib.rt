@@ -1,4 +1,6 @@
 // The money of a right, in whole US cents: its floor, its guarantee, the instalments of its charge and what they lack.
+#![tactic(auto)]
+
 mod dues;
 mod guarantees;
 mod months;

@@ -1,4 +1,6 @@
 // Reads a submission from standard input, proposes it to the worked firm book and writes one line: what the book answers.
+#![tactic(auto)]
+
 ghost use Rattle.std.specs.Prelude.{◌≤◌, length, IfOk};
 
 use demonstration::answer;

@@ -19,7 +19,7 @@ too_long bs h a = omega (arith, a.0, submission_short (whole_words bs) a.1, leng
 -- 521 bytes decide
 pub read_decided : (bs : List ℕ) (r : Result InputWords Refusal) → ReadAs bs r → ReadDecided bs r
 read_decided bs (Ok w) a rest h = absurd (too_long bs h a.0)
-read_decided bs (Err e) j = decided bs (Refused e) j
+read_decided bs (Err e) j rest h = decided bs (Refused e) j rest h
 
 -- the first n words, all there are or 130, decide
 module _ (bs : List ℕ) (n : ℕ) (count : n ≡ min (length bs / 4) 130) where

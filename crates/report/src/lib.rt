@@ -1,4 +1,6 @@
 // The words of an input of bytes, and the answer to it as a line of text.
+#![tactic(auto)]
+
 ghost use Rattle.std.specs.Prelude.{◌≡◌, ◌≤◌, true, length, is_ok, IfOk};
 ghost use Rattle.report.specs.Answers.{Answered};
 

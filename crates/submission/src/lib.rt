@@ -1,4 +1,6 @@
 // The words of a submission: lines of firm rights as an optimiser proposes them, read and written.
+#![tactic(auto)]
+
 mod form;
 mod line;
 mod reader;

@@ -1,4 +1,6 @@
 // The terms of the market: its refusals, ranges, areas and pairs of areas.
+#![tactic(auto)]
+
 mod area;
 mod pair;
 mod ranges;

@@ -40,7 +40,7 @@ pub invariant_of-result : goal.invariant_of-result
 invariant_of-result c =
     let f = figures c.args.self.now in
     let m : ℕ → Bool = λ p. not (eqb (pair_flow f c.args.references.now c.args.flows.now (c.args.limit + 1) p) 0) in
-    (omega (arith, row_of_most m c.loop-pair.pair (30 - c.loop-pair.pair) (omega arith), c.loop-pair.invariant), tt)
+    record { narrow = omega (arith, row_of_most m c.loop-pair.pair (30 - c.loop-pair.pair) (omega arith), c.loop-pair.invariant) }
 
 pub returns : goal.returns
 returns c pair h =
