@@ -21,7 +21,7 @@ invariant_of-self c =
     let me = c.args.self.now in
     let inside : c.args.at < me.count = omega (arith, length-rights me, c.requires.inside) in
     let low : c.paying.result.line.power ≤ most_power = subst (λ (r : Right). r.line.power ≤ most_power) (sym c.paying.ensures) (small_at me.rows c.args.at empty (omega (arith, me.full, me.counted)) me.small) in
-    (simp length-set me.full, (me.counted, (drop-set-lt me.count me.rows c.args.at c.paying.result inside ∙ me.behind, (small-set me.rows c.args.at c.paying.result low me.small, tt))))
+    record { full = simp length-set me.full; counted = me.counted; behind = drop-set-lt me.count me.rows c.args.at c.paying.result inside ∙ me.behind; small = small-set me.rows c.args.at c.paying.result low me.small }
 
 pub returns : goal.returns
 returns c =

@@ -7,7 +7,7 @@ use Rattle.book.proofs.rights.Rights.push.Goals as goal
 pub invariant_of-self : goal.invariant_of-self
 invariant_of-self c =
     let me = c.args.self.now in
-    (simp length-set me.full, (omega (arith, length-rights me), (behind_push me.rows me.count me.full me.behind c.args.right, (small-set me.rows me.count c.args.right c.requires.small me.small, tt))))
+    record { full = simp length-set me.full; counted = omega (arith, length-rights me); behind = behind_push me.rows me.count me.full me.behind c.args.right; small = small-set me.rows me.count c.args.right c.requires.small me.small }
 
 pub returns : goal.returns
 returns c = let me = c.args.self.now in take_more_set me.rows me.count c.args.right (omega (arith, me.full, length-rights me))

@@ -11,7 +11,7 @@ pub invariant_of-self : goal.invariant_of-self
 invariant_of-self c =
     let me = c.args.self.now in
     let long : length (all_confirmed (rights me)) ≡ me.count = length-map (rights me) confirmed ∙ length-rights me in
-    (omega (arith, c.confirm_front.auto.rows, me.full), (me.counted, (ap (drop me.count) c.confirm_front.ensures ∙ drop_at (all_confirmed (rights me)) (drop me.count me.rows) me.count long ∙ me.behind, (subst (λ xs. T (all_small xs)) (sym c.confirm_front.ensures) (small-append (all_confirmed (rights me)) (drop me.count me.rows) (small-confirmed (rights me) (small-take me.count me.rows me.small)) (small-drop me.count me.rows me.small)), tt))))
+    record { full = omega (arith, c.confirm_front.auto.rows, me.full); counted = me.counted; behind = ap (drop me.count) c.confirm_front.ensures ∙ drop_at (all_confirmed (rights me)) (drop me.count me.rows) me.count long ∙ me.behind; small = subst (λ xs. T (all_small xs)) (sym c.confirm_front.ensures) (small-append (all_confirmed (rights me)) (drop me.count me.rows) (small-confirmed (rights me) (small-take me.count me.rows me.small)) (small-drop me.count me.rows me.small)) }
 
 pub returns : goal.returns
 returns c =

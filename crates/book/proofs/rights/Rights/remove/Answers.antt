@@ -10,7 +10,7 @@ pub invariant_of-self : goal.invariant_of-self
 invariant_of-self c =
     let me = c.args.self.now in
     let inside : c.args.at < me.count = omega (arith, length-rights me) in
-    (omega (arith, c.close_gap.auto.rows, me.full), (omega (arith, me.counted), (behind_removed me.rows c.close_gap.new.rows me.count c.args.at me.full me.counted me.behind inside c.close_gap.ensures, (subst (λ xs. T (all_small xs)) (sym c.close_gap.ensures) (small-closed me.rows c.args.at me.small), tt))))
+    record { full = omega (arith, c.close_gap.auto.rows, me.full); counted = omega (arith, me.counted); behind = behind_removed me.rows c.close_gap.new.rows me.count c.args.at me.full me.counted me.behind inside c.close_gap.ensures; small = subst (λ xs. T (all_small xs)) (sym c.close_gap.ensures) (small-closed me.rows c.args.at me.small) }
 
 pub returns : goal.returns
 returns c =
