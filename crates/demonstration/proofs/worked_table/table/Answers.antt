@@ -10,9 +10,9 @@ more m before after p q =
     q ∙ ap W p ∙ ap entries_of on
 
 pub loop-month-preserved : goal.loop-month-preserved
-loop-month-preserved c = more c.loop-month.-month _ _ c.loop-month.invariant c.in_ok-push_month.ensures
+loop-month-preserved c = more c.loop-month._month _ _ c.loop-month.invariant c.in_ok-push_month.ensures
 
 pub returns : goal.returns
 returns c =
-    let last : c.loop-month.-month ≡ 12 = omega arith in
+    let last : c.loop-month._month ≡ 12 = omega arith in
     (c.from_entries.ensures.limits, c.from_entries.ensures.nodes, c.from_entries.ensures.entries ∙ c.loop-month.invariant ∙ ap entries_of last)

@@ -17,4 +17,4 @@ invariant_of-self-in-Ok g c =
     let b = view c.args.self.now.book.ledger in
     let after = view c.confirm.new.self.ledger in
     let a = c.in-Some.award.numbers in
-    (subst (λ (o : Option Award). T (in_hand o after)) (sym c.in-Some.ensures.after) (settled_none (award_check b a.book a.first a.lines) b Confirmed (all_confirmed b.rights) after unlike c.in-Ok.ensures.gives), tt)
+    record { held = subst (λ (o : Option Award). T (in_hand o after)) (sym c.in-Some.ensures.after) (settled_none (award_check b a.book a.first a.lines) b Confirmed (all_confirmed b.rights) after unlike c.in-Ok.ensures.gives) }

@@ -8,4 +8,4 @@ pub invariant_of-self-2 : goal.invariant_of-self-2
 invariant_of-self-2 g c =
     let me = c.args.self.now.book in
     let m = market (g.S.FactorSource.means me.source) (g.R.UseRule.worst me.rule) (figures me.calendar) in
-    (proposed_open m (view me.ledger) c.args.words.now c.in_ok-award.award.numbers (view c.propose.new.self.ledger) c.in_ok-award.ensures.gives, tt)
+    record { held = proposed_open m (view me.ledger) c.args.words.now c.in_ok-award.award.numbers (view c.propose.new.self.ledger) c.in_ok-award.ensures.gives }
