@@ -3,6 +3,7 @@ use demonstration::{calendar, table};
 use desk::{Answer, Call, Desk};
 use flows::{FactorSource, FirmRule, PairList, PairRow, UseRule};
 use std::process::Abort;
+use std::test::Fail;
 use submission::Line;
 use terms::Refusal;
 

@@ -3,6 +3,7 @@ use demonstration::{calendar, table};
 use desk::{Answer, Call, Desk};
 use flows::{FactorSource, FirmRule, ObligationRule, UseRule};
 use std::process::Abort;
+use std::test::Fail;
 use submission::Line;
 
 // 450,000 kW southward, to go beside 150,000 kW northward.

@@ -2,6 +2,7 @@ use crate::asking::*;
 use demonstration::{calendar, table};
 use desk::{Answer, Call, Outcome, run};
 use flows::FirmRule;
+use std::test::Fail;
 use submission::Line;
 
 // 100,000 kW and 100,001 kW southward, each at the floor.

@@ -3,6 +3,7 @@ use demonstration::{calendar, table};
 use desk::{Answer, Call, Desk};
 use flows::{FactorSource, FirmRule, UseRule};
 use std::process::Abort;
+use std::test::Fail;
 use submission::Line;
 
 // Every refusal of the calls other than propose, each beside the nearest call that is granted.
