@@ -4,7 +4,7 @@ use Rattle.std.proofs.lemmas.List.Elements.{filter-append}
 use Rattle.std.proofs.ByRecursion.{kept_by_passes, All-weaker}
 use Rattle.std.proofs.lemmas.List.{append-nil, append_assoc}
 use Rattle.std.proofs.lemmas.Bool.{cond-true, cond-false, eq-eqb, ne_eqb}
-use Rattle.std.specs.List.{AllByRecursion as All}
+use Rattle.std.specs.List.{AllByRecursion}
 use Rattle.submission.specs.Submissions.{decode}
 use Rattle.submission.specs.declared.line.Line.{Line}
 use Rattle.book.specs.declared.right.Right.{Right}
@@ -47,7 +47,7 @@ total-provisional s r rs =
     elim r.in_force as (λ t. total (charge_at s) (cond (not t) (r ∷ provisional rs) (provisional rs)) ≡ cond (eqb r.serial s) (cond (not t) r.line.charge 0) 0 + total (charge_at s) (provisional rs))
     [ true ↦ omega (arith, cond_zero (eqb r.serial s)) | false ↦ refl ]
 
-owed-confirmed : (s : ℕ) (rs : List Right) → All Unpaid rs → total (charge_at s) (provisional rs) + owed s rs ≡ owed s (all_confirmed rs)
+owed-confirmed : (s : ℕ) (rs : List Right) → AllByRecursion Unpaid rs → total (charge_at s) (provisional rs) + owed s rs ≡ owed s (all_confirmed rs)
 owed-confirmed s [] h = omega arith
 owed-confirmed s (r ∷ rs) h =
     omega (arith, total-provisional s r rs, becomes_due (eqb r.serial s) r.in_force r.line.charge r.paid h.0, owed-confirmed s rs h.1)
@@ -133,7 +133,7 @@ provisional-numbered : (k : ℕ) (ls : List Line) → provisional (numbered k ls
 provisional-numbered k [] = refl
 provisional-numbered k (x ∷ xs) = ap (λ rs. record { serial = k; line = x; in_force = false; paid = 0 } ∷ rs) (provisional-numbered (suc k) xs)
 
-provisional_none : (rs : List Right) → All (λ r. r.in_force ≡ true) rs → provisional rs ≡ []
+provisional_none : (rs : List Right) → AllByRecursion (λ r. r.in_force ≡ true) rs → provisional rs ≡ []
 provisional_none [] h = refl
 provisional_none (r ∷ rs) h = ap (λ t. cond (not t) (r ∷ provisional rs) (provisional rs)) h.0 ∙ provisional_none rs h.1
 
@@ -198,13 +198,13 @@ ordered_lived m law n (e ∷ h) b l =
     (ordered_act m before (sound-lived m law n h before l.1) (ever_confirmed h) (ordered_lived m law n h before l.1) e.call))
 
 -- where serials rise, the charges with a right's serial are its own
-none_below : (s : ℕ) (rs : List Right) → All (λ r. suc s ≤ r.serial) rs → total (charge_at s) rs ≡ 0
+none_below : (s : ℕ) (rs : List Right) → AllByRecursion (λ r. suc s ≤ r.serial) rs → total (charge_at s) rs ≡ 0
 none_below s [] h = refl
 none_below s (r ∷ rs) h =
     let low = h.0 in
     omega (arith, cond-false (eqb r.serial s) r.line.charge 0 (ne_eqb r.serial s (λ e. omega arith)), none_below s rs h.1)
 
-alone : (lo : ℕ) (rs : List Right) (hi : ℕ) → Rising lo rs hi → All (λ r. total (charge_at r.serial) rs ≡ r.line.charge) rs
+alone : (lo : ℕ) (rs : List Right) (hi : ℕ) → Rising lo rs hi → AllByRecursion (λ r. total (charge_at r.serial) rs ≡ r.line.charge) rs
 alone lo [] hi h = tt
 alone lo (r ∷ rs) hi h =
     let above = rising_above (suc r.serial) (suc r.serial) rs hi (omega arith) h.1 in (
@@ -214,7 +214,7 @@ alone lo (r ∷ rs) hi h =
           rs above (alone (suc r.serial) rs hi h.1),
     )
 
-pub accounted_lived : (m : Market) → BoundedLines m → (n : ℕ) (h : History) (b : State) → Lived m n h b → All (Accounted h b) (ever_confirmed h)
+pub accounted_lived : (m : Market) → BoundedLines m → (n : ℕ) (h : History) (b : State) → Lived m n h b → AllByRecursion (Accounted h b) (ever_confirmed h)
 accounted_lived m law n h b l =
     All-weaker (λ r. total (charge_at r.serial) (ever_confirmed h) ≡ r.line.charge) (Accounted h b)
     (λ r e. omega (arith, charges-lived m law n h b l r.serial))

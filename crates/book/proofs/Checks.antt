@@ -3,7 +3,7 @@ use Rattle.std.proofs.Common.{◌≡◌, ℕ, suc, ◌+◌, ◌-◌, ◌<◌, �
 use lib.Signed.{lt_z}
 use Rattle.std.proofs.lemmas.Int.{ints}
 use Rattle.std.proofs.lemmas.Bool.{ltb-false, or_parts, cond_both, eqb-true}
-use Rattle.std.specs.List.{AllByRecursion as All}
+use Rattle.std.specs.List.{AllByRecursion}
 use Rattle.submission.specs.declared.line.Line.{Line}
 use Rattle.book.specs.declared.right.Right.{Right}
 use Rattle.terms.specs.declared.refusal.Refusal.{Refusal}
@@ -49,7 +49,7 @@ past_from_check m rs e h =
     )
 
 -- lines that pass are small
-pub small_from_lines : (m : Market) → BoundedLines m → (b : State) (place : ℕ) (earlier ls : List Line) → lines_check m b place earlier ls ≡ None → All (λ x. x.power ≤ 1000000) ls
+pub small_from_lines : (m : Market) → BoundedLines m → (b : State) (place : ℕ) (earlier ls : List Line) → lines_check m b place earlier ls ≡ None → AllByRecursion (λ x. x.power ≤ 1000000) ls
 unfolding lines_check
 small_from_lines m law b place earlier [] h = tt
 small_from_lines m law b place earlier (x ∷ xs) h =

@@ -1,12 +1,12 @@
 -- Lists of rights: what holds of each, serials that rise, and sums.
 use Rattle.std.proofs.Common.{ℕ, suc, ◌+◌, ◌-◌, ◌≤◌, Bool, false, eqb, List, [], ◌∷◌, ◌++◌, length, filter, arith}
 use Rattle.std.proofs.lemmas.Bool.{cond_both}
-use Rattle.std.specs.List.{AllByRecursion as All}
+use Rattle.std.specs.List.{AllByRecursion}
 use Rattle.submission.specs.declared.line.Line.{Line}
 use Rattle.book.specs.declared.right.Right.{Right}
 use Rattle.book.specs.Rights.{numbered, confirmed, all_confirmed, paying, paid_on, without}
 
-pub all-zip : {X : Type 0} (P Q R : X → Type 0) → ((x : X) → P x → Q x → R x) → (xs : List X) → All P xs → All Q xs → All R xs
+pub all-zip : {X : Type 0} (P Q R : X → Type 0) → ((x : X) → P x → Q x → R x) → (xs : List X) → AllByRecursion P xs → AllByRecursion Q xs → AllByRecursion R xs
 all-zip P Q R f [] p q = tt
 all-zip P Q R f (x ∷ xs) p q = (f x p.0 q.0, all-zip P Q R f xs p.1 q.1)
 
@@ -15,7 +15,7 @@ abbrev pub Rising : ℕ → List Right → ℕ → Type 0
 Rising lo [] hi = lo ≤ hi
 Rising lo (r ∷ rs) hi = (lo ≤ r.serial) × Rising (suc r.serial) rs hi
 
-pub rising_above : (a lo : ℕ) (rs : List Right) (hi : ℕ) → a ≤ lo → Rising lo rs hi → All (λ r. a ≤ r.serial) rs
+pub rising_above : (a lo : ℕ) (rs : List Right) (hi : ℕ) → a ≤ lo → Rising lo rs hi → AllByRecursion (λ r. a ≤ r.serial) rs
 rising_above a lo [] hi h k = tt
 rising_above a lo (r ∷ rs) hi h k = (omega (arith, k.0), rising_above a (suc r.serial) rs hi (omega (arith, k.0)) k.1)
 
@@ -64,19 +64,19 @@ rising_without s lo (r ∷ rs) hi h =
     (λ _. (h.0, rising_without s (suc r.serial) rs hi h.1))
 
 -- what holds of each right, after an event
-pub all_confirmed-all : (P : Right → Type 0) → ((r : Right) → P r → P (confirmed r)) → (rs : List Right) → All P rs → All P (all_confirmed rs)
+pub all_confirmed-all : (P : Right → Type 0) → ((r : Right) → P r → P (confirmed r)) → (rs : List Right) → AllByRecursion P rs → AllByRecursion P (all_confirmed rs)
 all_confirmed-all P f [] h = tt
 all_confirmed-all P f (r ∷ rs) h = (f r h.0, all_confirmed-all P f rs h.1)
 
-pub all_paid : (P : Right → Type 0) (s n : ℕ) → ((r : Right) → P r → P (paying r n)) → (rs : List Right) → All P rs → All P (paid_on s n rs)
+pub all_paid : (P : Right → Type 0) (s n : ℕ) → ((r : Right) → P r → P (paying r n)) → (rs : List Right) → AllByRecursion P rs → AllByRecursion P (paid_on s n rs)
 all_paid P s n f [] h = tt
 all_paid P s n f (r ∷ rs) h =
-    cond_both (eqb r.serial s) (paying r n ∷ rs) (r ∷ paid_on s n rs) (All P) (λ _. (f r h.0, h.1)) (λ _. (h.0, all_paid P s n f rs h.1))
+    cond_both (eqb r.serial s) (paying r n ∷ rs) (r ∷ paid_on s n rs) (AllByRecursion P) (λ _. (f r h.0, h.1)) (λ _. (h.0, all_paid P s n f rs h.1))
 
-pub all_without : (P : Right → Type 0) (s : ℕ) (rs : List Right) → All P rs → All P (without s rs)
+pub all_without : (P : Right → Type 0) (s : ℕ) (rs : List Right) → AllByRecursion P rs → AllByRecursion P (without s rs)
 all_without P s [] h = tt
-all_without P s (r ∷ rs) h = cond_both (eqb r.serial s) rs (r ∷ without s rs) (All P) (λ _. h.1) (λ _. (h.0, all_without P s rs h.1))
+all_without P s (r ∷ rs) h = cond_both (eqb r.serial s) rs (r ∷ without s rs) (AllByRecursion P) (λ _. h.1) (λ _. (h.0, all_without P s rs h.1))
 
-pub all-numbered : (P : Right → Type 0) (Q : Line → Type 0) → ((k : ℕ) (x : Line) → Q x → P (record { serial = k; line = x; in_force = false; paid = 0 })) → (k : ℕ) (ls : List Line) → All Q ls → All P (numbered k ls)
+pub all-numbered : (P : Right → Type 0) (Q : Line → Type 0) → ((k : ℕ) (x : Line) → Q x → P (record { serial = k; line = x; in_force = false; paid = 0 })) → (k : ℕ) (ls : List Line) → AllByRecursion Q ls → AllByRecursion P (numbered k ls)
 all-numbered P Q f k [] h = tt
 all-numbered P Q f k (x ∷ xs) h = (f k x h.0, all-numbered P Q f (suc k) xs h.1)

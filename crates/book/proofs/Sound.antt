@@ -5,7 +5,7 @@ use Rattle.std.proofs.ByRecursion.{All-append, all_kept_by, kept_by_passes}
 use Rattle.std.proofs.lemmas.List.{append-nil, get_or_past}
 use Rattle.std.proofs.lemmas.Int.{ints}
 use Rattle.std.proofs.lemmas.Bool.{cond_both, cond-true, eq-eqb, eqb-true, leb-false, ltb-false, or_parts, not-false, both_ways}
-use Rattle.std.specs.List.{AllByRecursion as All}
+use Rattle.std.specs.List.{AllByRecursion}
 use Rattle.submission.specs.Submissions.{decode}
 use Rattle.submission.specs.declared.line.Line.{Line}
 use Rattle.book.specs.declared.right.Right.{Right}
@@ -28,7 +28,7 @@ use Rattle.book.proofs.Refusals.{then_none, refuse_none}
 use Rattle.book.proofs.Checks.{fits_from_check, small_from_lines, covered_from_lines}
 
 -- loads and rights in force, after an event
-pub kept-all : {X : Type 0} (test : X → Bool) (xs : List X) → All (λ x. test x ≡ true) xs → filter test xs ≡ xs
+pub kept-all : {X : Type 0} (test : X → Bool) (xs : List X) → AllByRecursion (λ x. test x ≡ true) xs → filter test xs ≡ xs
 kept-all test [] h = refl
 kept-all test (x ∷ xs) h = ap (λ t. cond t (x ∷ filter test xs) (filter test xs)) h.0 ∙ ap (λ ys. x ∷ ys) (kept-all test xs h.1)
 
@@ -99,8 +99,8 @@ pub record Sound (m : Market) (b : State) : Type 0 where
   pub rising : Rising 0 b.rights b.next
   pub fits : Fits m b.rights
   pub fits-in_force : Fits m (in_force b.rights)
-  pub settled : b.pending ≡ None → All (λ r. r.in_force ≡ true) b.rights
-  pub unpaid : All Unpaid b.rights
+  pub settled : b.pending ≡ None → AllByRecursion (λ r. r.in_force ≡ true) b.rights
+  pub unpaid : AllByRecursion Unpaid b.rights
   pub holders : length b.balances ≡ 32
   pub covered : (x : ℕ) → held_of x b.rights ≤ balance b x
 
@@ -154,7 +154,7 @@ module _ (m : Market) (b : State) (is : Sound m b) where
             omega (arith, total-append (λ r. cond (eqb r.line.holder x) (held r) 0) b.rights (numbered b.next (decode ws)), held_of-numbered x b.next (decode ws));
       })
     where
-      all_lines : (xs : List Line) → All (λ _. Unit {0}) xs
+      all_lines : (xs : List Line) → AllByRecursion (λ _. Unit {0}) xs
       all_lines [] = tt
       all_lines (x ∷ xs) = (tt, all_lines xs)
 
@@ -173,11 +173,11 @@ module _ (m : Market) (b : State) (is : Sound m b) where
         covered = λ x. omega (arith, is.covered x, held_of-confirmed x b.rights);
       })
     where
-      every : (rs : List Right) → All (λ r. r.in_force ≡ true) (all_confirmed rs)
+      every : (rs : List Right) → AllByRecursion (λ r. r.in_force ≡ true) (all_confirmed rs)
       every [] = tt
       every (r ∷ rs) = (refl, every rs)
 
-      none_left : (rs : List Right) → All Unpaid (all_confirmed rs)
+      none_left : (rs : List Right) → AllByRecursion Unpaid (all_confirmed rs)
       none_left [] = tt
       none_left (r ∷ rs) = (λ e. absurd (both_ways true e refl), none_left rs)
 

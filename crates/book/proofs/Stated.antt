@@ -3,7 +3,7 @@ use Rattle.std.proofs.Common.{◌≡◌, ℕ, suc, ◌≤◌, eqb, leb, List, []
 use Rattle.std.proofs.lemmas.List.{get_or_past}
 use Rattle.std.proofs.lemmas.Bool.{cond_both, cond-true, cond-false, ne_eqb, eqb-true, leb-true}
 use Rattle.std.specs.Option.{option_map, ok_or}
-use Rattle.std.specs.List.{AllByRecursion as All}
+use Rattle.std.specs.List.{AllByRecursion}
 use Rattle.terms.specs.declared.refusal.Refusal.TheVariants.{Unknown}
 use Rattle.book.specs.declared.right.Right.{Right}
 use Rattle.book.specs.Rights.{debt, owed, right_of}
@@ -15,7 +15,7 @@ use Rattle.book.proofs.Lists.{Rising, rising_above}
 stated : Option Right → ℕ
 stated o = debt_stated (ok_or (option_map statement_of o) Unknown)
 
-owed_above : (s : ℕ) (rs : List Right) → All (λ r. suc s ≤ r.serial) rs → owed s rs ≡ 0
+owed_above : (s : ℕ) (rs : List Right) → AllByRecursion (λ r. suc s ≤ r.serial) rs → owed s rs ≡ 0
 owed_above s [] h = refl
 owed_above s (r ∷ rs) h = omega (arith, cond-false (eqb r.serial s) (debt r) 0 (ne_eqb r.serial s (λ e. omega (arith, h.0))), owed_above s rs h.1)
 

@@ -2,7 +2,7 @@
 use Rattle.std.proofs.Common.{◌≡◌, ℕ, suc, ◌+◌, ◌-◌, ◌<◌, ◌≤◌, Bool, true, false, cond, not, ◌||◌, eqb, ltb, List, [], ◌∷◌, ◌++◌, length, get_or, set, Some, None, filter, Option, sym, refl, ap, ◌∙◌, inl, inr, arith}
 use Rattle.std.proofs.lemmas.List.{get_or-set_same, get_or-set_other, set_past, get_or_past}
 use Rattle.std.proofs.lemmas.Bool.{cond_both, cond-true, cond-false, cases_eq, cases_lt, eq-eqb, ne_eqb, eqb-true, ltb-true, lt-ltb}
-use Rattle.std.specs.List.{AllByRecursion as All}
+use Rattle.std.specs.List.{AllByRecursion}
 use Rattle.submission.specs.declared.line.Line.{Line}
 use Rattle.book.specs.declared.right.Right.{Right}
 use Rattle.book.specs.Rights.{total, guarantee, held, held_of, asked_of, right_of, numbered, confirmed, all_confirmed, paying, paid_on, without}
@@ -45,10 +45,10 @@ total-paid f s n (y ∷ rs) r h =
       | false ↦ (λ k. let i = total-paid f s n rs r k in omega arith)
     ]) h
 
-pub all-paid_at : (P : Right → Type 0) (s n : ℕ) (rs : List Right) (r : Right) → right_of s rs ≡ Some r → P (paying r n) → All P rs → All P (paid_on s n rs)
+pub all-paid_at : (P : Right → Type 0) (s n : ℕ) (rs : List Right) (r : Right) → right_of s rs ≡ Some r → P (paying r n) → AllByRecursion P rs → AllByRecursion P (paid_on s n rs)
 all-paid_at P s n [] r h p all = tt
 all-paid_at P s n (y ∷ rs) r h p all =
-    (elim (eqb y.serial s) as (λ t. cond t (Some y) (right_of s rs) ≡ Some r → All P (cond t (paying y n ∷ rs) (y ∷ paid_on s n rs))) [
+    (elim (eqb y.serial s) as (λ t. cond t (Some y) (right_of s rs) ≡ Some r → AllByRecursion P (cond t (paying y n ∷ rs) (y ∷ paid_on s n rs))) [
       | true ↦ (λ k. let q : r ≡ y = cc in (rw q at p, all.1))
       | false ↦ (λ k. (all.0, all-paid_at P s n rs r k p all.1))
     ]) h

@@ -4,7 +4,7 @@ use lib.Signed.{≤ℤ_refl}
 use Rattle.std.proofs.ByRecursion.{All-weaker}
 use Rattle.std.proofs.lemmas.Int.{ints}
 use Rattle.std.proofs.lemmas.Bool.{ne_eqb, eq-eqb, cond-true, cond-false}
-use Rattle.std.specs.List.{AllByRecursion as All}
+use Rattle.std.specs.List.{AllByRecursion}
 use Rattle.book.specs.declared.right.Right.{Right}
 use Rattle.book.specs.Market.{Market}
 use Rattle.flows.specs.Factors.{InFactorRange, Ranged}
@@ -13,7 +13,7 @@ use Rattle.book.proofs.Lists.{Rising, rising_above, all-zip}
 
 -- no right has more than a million
 abbrev pub Small : List Right → Type 0
-Small rs = All (λ r. r.line.power ≤ 1000000) rs
+Small rs = AllByRecursion (λ r. r.line.power ≤ 1000000) rs
 
 -- what the market and the rule are known to keep
 pub record Lawful (m : Market) (allowed : ℕ → ℕ → Type 0) : Type 0 where
@@ -52,7 +52,7 @@ module _ (m : Market) (allowed : ℕ → ℕ → Type 0) (laws : Lawful m allowe
         let rest = flow_le from to rs uses small.1 p.1 in
         omega (arith, ints)
 
-    flow-same : (rs : List Right) (us vs : ℕ → ℕ) → All (λ r. us r.serial ≡ vs r.serial) rs → flow m month limit rs (λ s _. us s) ≡ flow m month limit rs (λ s _. vs s)
+    flow-same : (rs : List Right) (us vs : ℕ → ℕ) → AllByRecursion (λ r. us r.serial ≡ vs r.serial) rs → flow m month limit rs (λ s _. us s) ≡ flow m month limit rs (λ s _. vs s)
     flow-same [] us vs h = refl
     flow-same (r ∷ rs) us vs h =
         ap (λ u. cond (counts m month limit r.line) (carried (factor m month limit r.line) u) (pos 0) +ℤ flow m month limit rs (λ s _. us s)) h.0
@@ -60,7 +60,7 @@ module _ (m : Market) (allowed : ℕ → ℕ → Type 0) (laws : Lawful m allowe
 
     -- one use to each serial, the same in every month
     abbrev Chosen : List Right → (ℕ → ℕ) → Type 0
-    Chosen rs us = All (λ r. allowed r.line.power (us r.serial)) rs
+    Chosen rs us = AllByRecursion (λ r. allowed r.line.power (us r.serial)) rs
 
     reached : (lo : ℕ) (rs : List Right) (hi : ℕ) → Small rs → Rising lo rs hi → (us : ℕ → ℕ) × (Chosen rs us) × (flow m month limit rs (λ s _. us s) ≡ load m month limit rs)
     reached lo [] hi small rise = (λ _. 0, tt, refl)
@@ -69,7 +69,7 @@ module _ (m : Market) (allowed : ℕ → ℕ → Type 0) (laws : Lawful m allowe
         let rest = reached (suc r.serial) rs hi small.1 rise.1 in
         let us = at_serial r.serial one.0 rest.0 in
         let same = at_same r.serial one.0 rest.0 in
-        let others : All (λ x. us x.serial ≡ rest.0 x.serial) rs = All-weaker (λ x. suc r.serial ≤ x.serial) (λ x. us x.serial ≡ rest.0 x.serial) (λ x h. at_other r.serial one.0 rest.0 x.serial h) rs (rising_above (suc r.serial) (suc r.serial) rs hi (omega arith) rise.1) in (
+        let others : AllByRecursion (λ x. us x.serial ≡ rest.0 x.serial) rs = All-weaker (λ x. suc r.serial ≤ x.serial) (λ x. us x.serial ≡ rest.0 x.serial) (λ x h. at_other r.serial one.0 rest.0 x.serial h) rs (rising_above (suc r.serial) (suc r.serial) rs hi (omega arith) rise.1) in (
           us,
           (rw same one.1, all-zip (λ x. us x.serial ≡ rest.0 x.serial) (λ x. allowed x.line.power (rest.0 x.serial)) (λ x. allowed x.line.power (us x.serial)) (λ x e h. rw e h) rs others rest.1),
           ap (λ u. cond (counts m month limit r.line) (carried (factor m month limit r.line) u) (pos 0) +ℤ flow m month limit rs (λ s _. us s)) same

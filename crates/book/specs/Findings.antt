@@ -1,6 +1,6 @@
 -- The findings: what holds of every book, after every history.
 use Rattle.std.specs.Prelude.{◌≡◌, ℕ, ◌+◌, ◌≤◌, ◌⊎◌, List, [], ◌∷◌, ◌++◌, length, ℤ, Some, None, Option}
-use Rattle.std.specs.List.{AllByRecursion as All}
+use Rattle.std.specs.List.{AllByRecursion}
 use Rattle.submission.specs.Submissions.{decode}
 use Rattle.calendar.specs.Figures.{Figures}
 use Rattle.flows.specs.Factors.{Meaning}
@@ -47,7 +47,7 @@ pub record Findings (m : Market) (allowed : ℕ → ℕ → Type 0) (n : ℕ) (h
   pub proposals : (later earlier : History) (e : Event) (before : State) → h ≡ later ++ e ∷ earlier → Lived m n earlier before → ProposalDecided m allowed (standing earlier) before e
   pub annulments : (later earlier : History) (e : Event) (before : State) → h ≡ later ++ e ∷ earlier → Lived m n earlier before → AnnulmentDecided m allowed (standing earlier) before e
   -- a charge is accounted for
-  pub charges : All (Accounted h b) (ever_confirmed h)
+  pub charges : AllByRecursion (Accounted h b) (ever_confirmed h)
   -- an account is accounted for, and covers the guarantees held
   pub accounts : (x : ℕ) → deposits x h ≡ withdrawals x h + takings_from x h + balance b x
   pub covered : (x : ℕ) → held_of x b.rights ≤ balance b x

@@ -1,6 +1,6 @@
 -- Flows: what rights carry under a choice of uses, and the load, which is the worst of it.
 use Rattle.std.specs.Prelude.{ℕ, ◌*◌, ◌≤◌, Bool, cond, ◌&&◌, List, [], ◌∷◌, ℤ, pos, ◌+ℤ◌, ◌*ℤ◌, ◌≤ℤ◌, ◌<ℤ◌, Some, None, Option, nat_le}
-use Rattle.std.specs.List.{AllByRecursion as All}
+use Rattle.std.specs.List.{AllByRecursion}
 use Rattle.submission.specs.declared.line.Line.{Line}
 use Rattle.book.specs.declared.right.Right.{Right}
 use Rattle.terms.specs.Pairs.{pair_number}
@@ -60,7 +60,7 @@ flow m month limit (r ∷ rs) uses = cond (counts m month limit r.line) (carried
 
 -- each right's use is one that the rule allows at its power, in each of the twelve months
 abbrev pub Permitted : (ℕ → ℕ → Type 0) → List Right → (ℕ → ℕ → ℕ) → Type 0
-Permitted allowed rs uses = All (λ r. (month : ℕ) → 1 ≤ month → month ≤ 12 → allowed r.line.power (uses r.serial month)) rs
+Permitted allowed rs uses = AllByRecursion (λ r. (month : ℕ) → 1 ≤ month → month ≤ 12 → allowed r.line.power (uses r.serial month)) rs
 
 -- a month and a limit of the calendar
 pub record Listed (m : Market) (month limit : ℕ) : Type 0 where

@@ -1,6 +1,6 @@
 -- The findings as the book's questions answer them, with capacity said both ways.
 use Rattle.std.specs.Prelude.{◌≡◌, ℕ, ◌+◌, ◌≤◌, List, ◌∷◌, ◌++◌, length, Some, None}
-use Rattle.std.specs.List.{AllByRecursion as All}
+use Rattle.std.specs.List.{AllByRecursion}
 use Rattle.submission.specs.Submissions.{decode}
 use Rattle.book.specs.declared.right.Right.{Right}
 use Rattle.terms.specs.declared.refusal.Refusal.TheVariants.{LimitPassed}
@@ -49,7 +49,7 @@ pub record FindingsAsStated (m : Market) (allowed : ℕ → ℕ → Type 0) (n :
   pub proposals : (later earlier : History) (e : Event) (before : State) → h ≡ later ++ e ∷ earlier → Lived m n earlier before → ProposalBothWays m allowed (standing earlier) before e
   pub annulments : (later earlier : History) (e : Event) (before : State) → h ≡ later ++ e ∷ earlier → Lived m n earlier before → AnnulmentBothWays m allowed (standing earlier) before e
   -- a charge is accounted for
-  pub charges : All (AccountedAsStated h b) (ever_confirmed h)
+  pub charges : AllByRecursion (AccountedAsStated h b) (ever_confirmed h)
   -- an account is accounted for, and covers the guarantees held; the balance as the account answers it
   pub accounts : (x : ℕ) → deposits x h ≡ withdrawals x h + takings_from x h + balance_stated (account b x)
   pub covered : (x : ℕ) → held_of x b.rights ≤ balance_stated (account b x)

@@ -2,7 +2,7 @@
 use Rattle.std.proofs.Common.{◌≡◌, ℕ, ◌≤◌, Bool, true, false, cond, List, [], ◌∷◌, ℤ, pos, ◌+ℤ◌, ◌*ℤ◌, ◌≤ℤ◌, ◌<ℤ◌, Some, None, MatchBool, Option, sym, refl, ap, ◌∙◌, arith}
 use lib.Signed.{≤ℤ_refl}
 use Rattle.std.proofs.lemmas.Int.{ints}
-use Rattle.std.specs.List.{AllByRecursion as All}
+use Rattle.std.specs.List.{AllByRecursion}
 use Rattle.terms.specs.Ranges.{most_power}
 use Rattle.flows.specs.declared.load.RightAtLimit.{RightAtLimit}
 use Rattle.flows.specs.Factors.{InFactorRange, Ranged, Meaning}
@@ -19,7 +19,7 @@ pub record Lawful (means : Meaning) (allowed : ℕ → ℕ → Type 0) (worst : 
 
 -- no right has more than 1,000,000 kW
 abbrev pub Small : List RightAtLimit → Type 0
-Small rights = All (λ r. r.power ≤ most_power) rights
+Small rights = AllByRecursion (λ r. r.power ≤ most_power) rights
 
 cond_le : (b : Bool) (x y : ℤ) → x ≤ℤ y → (cond b x (pos 0)) ≤ℤ (cond b y (pos 0))
 cond_le true x y h = h

@@ -1,6 +1,6 @@
 -- The words of lines, and the lines of words.
 use Rattle.std.proofs.Common.{◌≡◌, ℕ, zero, suc, ◌+◌, ◌-◌, ◌*◌, ◌/◌, ◌%◌, ◌^◌, ◌<◌, ◌≤◌, List, [], ◌∷◌, ◌++◌, length, get_or, take, drop, sym, refl, ap, ◌∙◌, subst, ⊎_elim, arith, length-append, length-drop, get_or-drop, take-add}
-use Rattle.std.specs.List.{flat_map, AllByRecursion as All}
+use Rattle.std.specs.List.{flat_map, AllByRecursion}
 use Rattle.std.proofs.lemmas.Bool.{cases_lt}
 use Rattle.submission.specs.declared.line.Line.{Line}
 use Rattle.submission.specs.Words.{word, kind, payload, words_of, Fits, line_of}
@@ -97,18 +97,18 @@ lines-back (suc n) ws h r =
     let more = lines-back n (drop 8 ws) (omega (arith, length-drop 8 ws)) (kinds_on n ws r) in
     ap (λ k. take k ws) e ∙ take-add 8 (8 * n) ws ∙ (λ i. one i ++ more i)
 
-pub lines_fit : (n : ℕ) (ws : List ℕ) → All Fits (lines_of n ws)
+pub lines_fit : (n : ℕ) (ws : List ℕ) → AllByRecursion Fits (lines_of n ws)
 lines_fit zero ws = tt
 lines_fit (suc n) ws = (line-fits ws, lines_fit n (drop 8 ws))
 
-pub lines_forth : (ls : List Line) (rest : List ℕ) → All Fits ls → lines_of (length ls) (flat_map words_of ls ++ rest) ≡ ls
+pub lines_forth : (ls : List Line) (rest : List ℕ) → AllByRecursion Fits ls → lines_of (length ls) (flat_map words_of ls ++ rest) ≡ ls
 lines_forth [] rest f = refl
 lines_forth (l ∷ ls) rest f =
     let one = line_forth l (flat_map words_of ls ++ rest) f.0 in
     let more = lines_forth ls rest f.1 in
     λ i. one i ∷ more i
 
-pub lines_kinds : (ls : List Line) (rest : List ℕ) → All Fits ls → Kinds (8 * length ls) (flat_map words_of ls ++ rest)
+pub lines_kinds : (ls : List Line) (rest : List ℕ) → AllByRecursion Fits ls → Kinds (8 * length ls) (flat_map words_of ls ++ rest)
 lines_kinds [] rest f i h = absurd (omega arith)
 lines_kinds (l ∷ ls) rest f i h =
     ⊎_elim

@@ -1,6 +1,6 @@
 -- What a submission is, and where words break its form.
 use Rattle.std.specs.Prelude.{◌≡◌, ℕ, zero, suc, ◌+◌, ◌-◌, ◌*◌, ◌<◌, ◌≤◌, List, [], ◌∷◌, ◌++◌, length, take, drop, slice_index}
-use Rattle.std.specs.List.{flat_map, AllByRecursion as All}
+use Rattle.std.specs.List.{flat_map, AllByRecursion}
 use Rattle.terms.specs.Ranges.{most_lines}
 use Rattle.terms.specs.declared.refusal.Refusal.{Refusal}
 use Rattle.terms.specs.declared.refusal.Refusal.TheVariants.{Form}
@@ -15,7 +15,7 @@ encode ls = (word 1 (length ls) ∷ flat_map words_of ls) ++ word 15 (8 * length
 pub record Writable (ls : List Line) : Type 0 where
   pub some : 1 ≤ length ls
   pub few : length ls ≤ most_lines
-  pub fit : All Fits ls
+  pub fit : AllByRecursion Fits ls
 
 -- a submission: the words of some lines
 abbrev pub Submission : List ℕ → Type 0

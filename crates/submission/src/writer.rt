@@ -1,5 +1,5 @@
 ghost use Rattle.std.specs.Prelude.{◌≡◌, ◌+◌, ◌*◌, ◌≤◌, Decides};
-ghost use Rattle.std.specs.List.{AllByRecursion as All};
+ghost use Rattle.std.specs.List.{AllByRecursion};
 ghost use Rattle.terms.specs.Ranges.{most_lines};
 ghost use Rattle.submission.specs.Words.{Fits, word};
 ghost use Rattle.submission.specs.Writing.{Writes};
@@ -10,7 +10,7 @@ use terms::{MOST_LINES, Refusal};
 
 // Whether each line fits its words.
 fn all_fit(lines: &[Line]) -> bool
-    ensures { Decides result (All Fits lines.now) }
+    ensures { Decides result (AllByRecursion Fits lines.now) }
 {
     for line in lines {
         if !fits(line) {

@@ -1,5 +1,5 @@
 ghost use Rattle.std.specs.Prelude.{◌≡◌, ◌+◌, ◌^◌, ◌<◌, ◌≤◌, List, [], ◌∷◌, ◌++◌, length, OnOk};
-ghost use Rattle.std.specs.List.{AllByRecursion as All};
+ghost use Rattle.std.specs.List.{AllByRecursion};
 ghost use Rattle.terms.specs.Ranges.{most_power};
 ghost use Rattle.submission.specs.declared.line.Line.{Line as Entry};
 ghost use Rattle.submission.specs.Reading.{ahead};
@@ -51,7 +51,7 @@ impl<S: FactorSource, R: UseRule> Book<S, R> {
 pub(super) fn enter(table: &mut Rights, reader: Reader<'_>, serial: u32)
     requires room { length (rights table.old) + length (ahead reader.words.now reader.at) ≤ 96 }
     requires serials { serial + length (ahead reader.words.now reader.at) < 2 ^ 32 }
-    requires small { All (λ x. x.power ≤ most_power) (ahead reader.words.now reader.at) }
+    requires small { AllByRecursion (λ x. x.power ≤ most_power) (ahead reader.words.now reader.at) }
     ensures { rights table.new ≡ rights table.old ++ numbered serial (ahead reader.entry.words.now reader.entry.at) }
 {
     let mut reader = reader;

@@ -1,5 +1,5 @@
 use Rattle.std.proofs.Common.{refl, subst}
-use Rattle.std.specs.List.{AllByRecursion as All}
+use Rattle.std.specs.List.{AllByRecursion}
 use Rattle.std.proofs.ByRecursion.{All-get_or, All-more}
 use Rattle.std.proofs.lemmas.List.{take_all}
 use Rattle.std.proofs.lemmas.Bool.{false≢true}
@@ -13,4 +13,4 @@ pub loop-line-preserved : goal.loop-line-preserved
 loop-line-preserved c = All-more Fits c.args.lines.now c.loop-line.line-index _ c.loop-line-test.true c.loop-line.invariant (c.if-not-fits.ensures.0 refl)
 
 pub returns : goal.returns
-returns c = (λ _. subst (All Fits) (take_all c.loop-line.line-index c.args.lines.now c.loop-line-test.false) c.loop-line.invariant, λ _. refl)
+returns c = (λ _. subst (AllByRecursion Fits) (take_all c.loop-line.line-index c.args.lines.now c.loop-line-test.false) c.loop-line.invariant, λ _. refl)

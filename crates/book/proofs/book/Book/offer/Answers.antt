@@ -1,6 +1,6 @@
 use Rattle.std.proofs.Common.{◌≡◌, ℕ, ◌+◌, ◌≤◌, T, List, [], ◌++◌, length, sym, refl, ap, ◌∙◌, subst, arith}
 use Rattle.std.proofs.lemmas.Result.{err_from_is_err_and}
-use Rattle.std.specs.List.{AllByRecursion as All}
+use Rattle.std.specs.List.{AllByRecursion}
 use Rattle.submission.specs.declared.line.Line.{Line}
 use Rattle.submission.specs.Submissions.{Submission, decode}
 use Rattle.submission.specs.Reading.{Opened}
@@ -89,7 +89,7 @@ enter-requires g c =
     record {
       room = omega (arith, enough.0, c.lines_left-lines.ensures);
       serials = omega (arith, enough.1, c.lines_left-lines.ensures);
-      small = subst (All (λ (x : Line). x.power ≤ most_power)) (sym o.lines) (small_from_lines m (bounded_lines m) b 1 [] (decode ws) lines);
+      small = subst (AllByRecursion (λ (x : Line). x.power ≤ most_power)) (sym o.lines) (small_from_lines m (bounded_lines m) b 1 [] (decode ws) lines);
     }
 
 pub check_capacity-requires : goal.check_capacity-requires

@@ -1,6 +1,6 @@
 use Rattle.std.proofs.Common.{◌≡◌, ◌≤◌, ◌∷◌, ◌++◌, length, sym, refl, ap, ◌∙◌, subst, arith}
 use Rattle.std.proofs.lemmas.List.{append-nil}
-use Rattle.std.specs.List.{AllByRecursion as All}
+use Rattle.std.specs.List.{AllByRecursion}
 use Rattle.terms.specs.Ranges.{most_power}
 use Rattle.submission.specs.declared.line.Line.{Line}
 use Rattle.submission.specs.Reading.{ahead}
@@ -25,7 +25,7 @@ push-requires c =
     let was = c.loop-part in
     let is = c.next.new.self in
     let split : ahead was.reader.words.now was.reader.at ≡ c.line.result ∷ ahead is.words.now is.at = n.cases.line ∙ (cc) in
-    record { room = omega (arith, was.invariant.1, ap length split); small = (subst (All (λ (x : Line). x.power ≤ most_power)) split was.invariant.3).0 }
+    record { room = omega (arith, was.invariant.1, ap length split); small = (subst (AllByRecursion (λ (x : Line). x.power ≤ most_power)) split was.invariant.3).0 }
 
 pub overflow_add-serial : goal.overflow_add-serial
 overflow_add-serial c =

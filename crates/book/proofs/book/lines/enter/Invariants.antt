@@ -1,5 +1,5 @@
 use Rattle.std.proofs.Common.{◌≡◌, ◌+◌, ◌-◌, ◌^◌, ◌<◌, ◌≤◌, ◌++◌, length}
-use Rattle.std.specs.List.{AllByRecursion as All}
+use Rattle.std.specs.List.{AllByRecursion}
 use Rattle.terms.specs.Ranges.{most_power}
 use Rattle.submission.specs.Reading.{ahead}
 use Rattle.book.specs.Rights.{numbered}
@@ -14,7 +14,7 @@ invariant-loop-part l =
     (l.reader.words.now ≡ l.initial.reader.words.now)
     × (length (rights l.table) + length left ≤ 96)
     × (l.serial + length left < 2 ^ 32)
-    × All (λ x. x.power ≤ most_power) left
+    × AllByRecursion (λ x. x.power ≤ most_power) left
     × (rights l.table ++ numbered l.serial left ≡ rights l.initial.table ++ numbered l.initial.serial all)
 
 abbrev pub decreases-loop-part : goal.decreases-loop-part
