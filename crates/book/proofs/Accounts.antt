@@ -10,7 +10,7 @@ use Rattle.book.specs.Rights.{right_of, numbered, without, taking}
 use Rattle.book.specs.States.{State, fresh, balance}
 use Rattle.book.specs.Refusing.{◌then◌}
 use Rattle.book.specs.Checks.{capacity_check, holder_check, propose_check, award_check, pay_check, annul_check, deposit_check, withdraw_check, day_check}
-use Rattle.book.specs.Calls.{Call, Answer, Outcome, outcome, pay_right, annul_right, annul, act}
+use Rattle.book.specs.Calls.{Call, Answer, Outcome, pay_right, annul_right, annul, act}
 use Rattle.book.specs.Calls.Call.{Propose, Confirm, Strike, Pay, Annul, Deposit, Withdraw, SetDay}
 use Rattle.book.specs.Events.{accepted, noted, taken, pays_in, draws, of_holder, annuls_of}
 use Rattle.book.specs.Histories.{History, Lived, standing, deposits, withdrawals, takings_from}

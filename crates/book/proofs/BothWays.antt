@@ -1,5 +1,5 @@
 -- The findings said as the book's questions answer them, with capacity both ways.
-use Rattle.std.proofs.Common.{◌≡◌, ℕ, ◌+◌, ◌≤◌, ◌⊎◌, List, ◌∷◌, ◌++◌, Some, None, refl, ap, ◌∙◌, subst, inl, inr, ⊎_elim, arith}
+use Rattle.std.proofs.Common.{◌≡◌, ℕ, ◌+◌, ◌≤◌, List, ◌++◌, ap, ◌∙◌, subst, inl, inr, arith}
 use Rattle.std.proofs.ByRecursion.{All-weaker}
 use Rattle.std.proofs.lemmas.Int.{ints}
 use Rattle.submission.specs.Submissions.{decode}
@@ -8,16 +8,14 @@ use Rattle.terms.specs.declared.refusal.Refusal.{Refusal}
 use Rattle.terms.specs.declared.refusal.Refusal.TheVariants.{LimitPassed}
 use Rattle.book.specs.Market.{Market}
 use Rattle.book.proofs.Bounded.{bounded_lines}
-use Rattle.book.specs.Rights.{held_of, right_of, numbered, without, taking, write_off}
+use Rattle.book.specs.Rights.{held_of, numbered, without, taking, write_off}
 use Rattle.book.specs.Loads.{Listed, Within, Passes}
 use Rattle.book.specs.States.{State}
-use Rattle.book.specs.Checks.{propose_check, annul_check}
 use Rattle.book.specs.Calls.{Answer}
-use Rattle.book.specs.Calls.Call.{Propose, Annul}
-use Rattle.book.specs.Calls.Answer.{Awarded, Annulled, Refused}
+use Rattle.book.specs.Calls.Answer.{Annulled, Refused}
 use Rattle.book.specs.Events.{Event}
 use Rattle.book.specs.Histories.{History, Lived, ever_confirmed, payments, takings, write_offs, withdrawals, takings_from}
-use Rattle.book.specs.Findings.{Decided, ProposalDecided, AnnulmentDecided, Accounted, Findings}
+use Rattle.book.specs.Findings.{Decided, ProposalDecided, AnnulmentDecided, Accounted}
 use Rattle.book.specs.StatedFindings.{DecidedBothWays, ProposalBothWays, AnnulmentBothWays, AccountedAsStated, FindingsAsStated}
 use Rattle.book.proofs.Worst.{Lawful}
 use Rattle.book.proofs.Accounts.{sound-lived}

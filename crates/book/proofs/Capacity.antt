@@ -1,18 +1,15 @@
 -- Histories: capacity decides proposals and annulments exactly.
-use Rattle.std.proofs.Common.{◌≡◌, ℕ, ◌+◌, ◌≤◌, ◌⊎◌, List, [], ◌∷◌, ◌++◌, length, Some, None, Option, sym, refl, ap, ◌∙◌, subst, inl, inr}
+use Rattle.std.proofs.Common.{◌≡◌, ℕ, ◌+◌, ◌≤◌, List, [], ◌∷◌, ◌++◌, length, Some, None, Option, sym, refl, ap, ◌∙◌, subst, inl, inr}
 use Rattle.submission.specs.Submissions.{decode}
-use Rattle.submission.specs.declared.line.Line.{Line}
 use Rattle.book.specs.declared.right.Right.{Right}
 use Rattle.terms.specs.declared.refusal.Refusal.{Refusal}
-use Rattle.terms.specs.declared.refusal.Refusal.TheVariants.{LimitPassed}
-use Rattle.book.specs.Market.{Market, limits}
+use Rattle.book.specs.Market.{Market}
 use Rattle.book.proofs.Bounded.{BoundedLines}
 use Rattle.book.specs.Rights.{right_of, numbered, without, taking, write_off}
 use Rattle.book.specs.States.{State}
 use Rattle.book.specs.Refusing.{◌then◌}
 use Rattle.book.specs.Checks.{capacity_check, propose_check, annul_check}
-use Rattle.book.specs.Calls.{Call, Answer, outcome, propose, annul_right, annul, act}
-use Rattle.book.specs.Calls.Call.{Propose, Annul}
+use Rattle.book.specs.Calls.{Answer, outcome, propose, annul_right, annul, act}
 use Rattle.book.specs.Calls.Answer.{Awarded, Annulled, Refused}
 use Rattle.book.specs.Events.{Event}
 use Rattle.book.specs.Histories.{History, Lived, standing}

@@ -10,7 +10,7 @@ use Rattle.submission.specs.declared.line.Line.{Line}
 use Rattle.book.specs.declared.right.Right.{Right}
 use Rattle.book.specs.Market.{Market}
 use Rattle.book.proofs.Bounded.{BoundedLines}
-use Rattle.book.specs.Rights.{total, debt, owed, right_of, in_force, provisional, numbered, confirmed, all_confirmed, paying, paid_on, without, taking, write_off}
+use Rattle.book.specs.Rights.{total, debt, owed, right_of, in_force, provisional, numbered, all_confirmed, paying, paid_on, without, taking, write_off}
 use Rattle.book.specs.States.{State}
 use Rattle.book.specs.Refusing.{◌then◌}
 use Rattle.book.specs.Checks.{capacity_check, propose_check, award_check, pay_check, annul_check, deposit_check, withdraw_check, day_check}

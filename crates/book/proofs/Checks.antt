@@ -1,5 +1,5 @@
 -- What a check says where it refuses and where it does not.
-use Rattle.std.proofs.Common.{◌≡◌, ℕ, suc, ◌+◌, ◌-◌, ◌<◌, ◌≤◌, true, false, cond, eqb, ltb, List, [], ◌∷◌, length, ℤ, ◌-ℤ◌, nat_abs, ◌≤ℤ◌, ◌<ℤ◌, Some, None, ap, arith}
+use Rattle.std.proofs.Common.{◌≡◌, ℕ, suc, ◌+◌, ◌-◌, ◌≤◌, true, false, cond, eqb, ltb, List, [], ◌∷◌, length, ℤ, ◌-ℤ◌, nat_abs, ◌≤ℤ◌, ◌<ℤ◌, Some, None, ap, arith}
 use lib.Signed.{lt_z}
 use Rattle.std.proofs.lemmas.Int.{ints}
 use Rattle.std.proofs.lemmas.Bool.{ltb-false, or_parts, cond_both, eqb-true}
@@ -14,8 +14,8 @@ use Rattle.book.specs.Lines.{line_fault}
 use Rattle.book.specs.Rights.{guarantee, asked_of}
 use Rattle.book.specs.Loads.{bound, load, Listed}
 use Rattle.book.specs.States.{State, free_part}
-use Rattle.book.specs.Refusing.{◌then◌, first_of}
-use Rattle.book.specs.Checks.{limit_check, capacity_check, factor_check, cover_check, line_check, lines_check, room_for}
+use Rattle.book.specs.Refusing.{first_of}
+use Rattle.book.specs.Checks.{limit_check, capacity_check, factor_check, cover_check, lines_check, room_for}
 use Rattle.book.proofs.Worst.{Fits}
 use Rattle.book.proofs.Refusals.{then_none, refuse_none, refuse_some, first_none, first_some}
 

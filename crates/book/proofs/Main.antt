@@ -1,18 +1,14 @@
 -- The findings, of every book and every history.
-use Rattle.std.proofs.Common.{◌≡◌, ℕ, ◌≤◌, List, [], ◌∷◌, refl}
+use Rattle.std.proofs.Common.{ℕ, ◌≤◌, List, [], ◌∷◌, refl}
 use Rattle.std.proofs.ByRecursion.{all_kept_by}
-use Rattle.book.specs.Market.{Market, limits}
-use Rattle.book.proofs.Bounded.{BoundedLines, bounded_lines}
+use Rattle.book.specs.Market.{Market}
+use Rattle.book.proofs.Bounded.{bounded_lines}
 use Rattle.book.specs.Rights.{in_force}
-use Rattle.book.specs.States.{State, fresh}
-use Rattle.book.specs.Refusing.{first_of}
-use Rattle.book.specs.Checks.{limit_check, capacity_check, lines_check}
+use Rattle.book.specs.States.{State}
 use Rattle.book.specs.Calls.{Call, act}
-use Rattle.book.specs.Events.{Event}
 use Rattle.book.specs.Histories.{History, Lived, event, state_after, history_after}
 use Rattle.book.specs.Findings.{Findings}
 use Rattle.book.proofs.Worst.{Lawful, within_from_fits}
-use Rattle.book.proofs.Sound.{Sound}
 use Rattle.book.proofs.Accounts.{standing-lived, sound-lived, accounts-lived}
 use Rattle.book.proofs.Charges.{accounted_lived}
 use Rattle.book.proofs.Capacity.{proposals-lived, annulments-lived}

@@ -13,7 +13,7 @@ use Rattle.book.specs.States.{State, balance, entered, with_rights, with_balance
 use Rattle.book.specs.Views.{numbers}
 use Rattle.book.specs.Forms.{form_check}
 use Rattle.book.specs.Checks.{open_check, lines_check, room_check, propose_check, capacity_check, known_check, overdue_on, annul_check}
-use Rattle.book.specs.Calls.{outcome, propose, annul, annul_right}
+use Rattle.book.specs.Calls.{propose, annul, annul_right}
 use Rattle.book.specs.Calls.Answer.{Awarded, Annulled, Refused}
 use Rattle.book.proofs.Refusals.{then_skip, then_stop}
 use Rattle.book.proofs.Outcomes.{Is, granted, refused_by}

@@ -1,5 +1,5 @@
 -- The findings: what holds of every book, after every history.
-use Rattle.std.specs.Prelude.{◌≡◌, ℕ, ◌+◌, ◌≤◌, ◌⊎◌, List, [], ◌∷◌, ◌++◌, length, ℤ, Some, None, Option}
+use Rattle.std.specs.Prelude.{◌≡◌, ℕ, ◌+◌, ◌≤◌, ◌⊎◌, List, [], ◌∷◌, ◌++◌, length, ℤ, Some, None}
 use Rattle.std.specs.List.{AllByRecursion}
 use Rattle.submission.specs.Submissions.{decode}
 use Rattle.calendar.specs.Figures.{Figures}

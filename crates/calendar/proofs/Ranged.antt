@@ -1,5 +1,5 @@
 -- Every value of a calendar is within its range.
-use Rattle.std.proofs.Common.{ℕ, ◌≤◌, List, [], map, get_or, take, pos, arith}
+use Rattle.std.proofs.Common.{ℕ, List, [], map, get_or, take, pos, arith}
 use Rattle.std.proofs.lemmas.Int.{ints}
 use Rattle.calendar.specs.Calls.{empty_figures}
 use Rattle.calendar.specs.declared.calendar.Calendar.{Calendar}

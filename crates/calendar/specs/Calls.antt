@@ -3,8 +3,6 @@ use Rattle.std.specs.Prelude.{◌≡◌, ℕ, zero, suc, ◌+◌, ◌-◌, ◌<�
 use Rattle.terms.specs.Ranges.{most_limits, most_nodes}
 use Rattle.terms.specs.declared.refusal.Refusal.{Refusal}
 use Rattle.terms.specs.declared.refusal.Refusal.TheVariants.{CalendarValue, CalendarFull}
-use Rattle.calendar.specs.declared.kinds.LimitKind.{LimitKind}
-use Rattle.calendar.specs.declared.kinds.Direction.{Direction}
 use Rattle.calendar.specs.declared.calendar.Calendar.{Calendar}
 use Rattle.calendar.specs.Kinds.{kind_numbered, direction_numbered}
 use Rattle.calendar.specs.Figures.{Figures, NodeFigures, LimitFigures, MonthFigures, figures, HasNode, HasLimit, node_count, limit_count}

@@ -1,14 +1,14 @@
 -- What the first words of an input decide.
-use Rattle.std.proofs.Common.{◌≡◌, ℕ, ◌+◌, ◌-◌, ◌*◌, ◌/◌, ◌%◌, ◌<◌, ◌≤◌, ◌⊎◌, List, [], ◌∷◌, ◌++◌, length, take, drop, sym, refl, ap, ◌∙◌, subst, inl, inr, ⊎_elim, append-nil, arith, length-append, take-append-drop}
+use Rattle.std.proofs.Common.{◌≡◌, ℕ, ◌+◌, ◌-◌, ◌*◌, ◌/◌, ◌<◌, ◌≤◌, ◌⊎◌, List, [], ◌++◌, length, take, drop, sym, refl, ap, ◌∙◌, subst, inl, inr, ⊎_elim, append-nil, arith, length-append, take-append-drop}
 use lib.Seq.{take-append-le}
 use Rattle.std.proofs.lemmas.List.{length-take-le, take_all, drop_all}
 use Rattle.terms.specs.declared.refusal.Refusal.{Refusal}
 use Rattle.terms.specs.declared.refusal.Refusal.TheVariants.{Form}
-use Rattle.submission.specs.Submissions.{encode, Submission, Begins, Sound, Breaks, RefusedForm, decode}
+use Rattle.submission.specs.Submissions.{Submission, Begins, Sound, RefusedForm, decode}
 use Rattle.submission.proofs.Lines.{length-encode}
 use Rattle.report.specs.declared.verdict.Verdict.{Verdict}
 use Rattle.report.specs.declared.verdict.Verdict.TheVariants.{WellFormed, Refused}
-use Rattle.report.specs.Inputs.{whole_words, Whole, Accepted, Broken, Judged, Decided}
+use Rattle.report.specs.Inputs.{whole_words, Judged, Decided}
 use Rattle.report.proofs.Bytes.{length-words, words_front}
 
 -- a submission has at most 130 words

@@ -1,6 +1,5 @@
 -- What the bytes of an input decide.
 use Rattle.std.specs.Prelude.{◌≡◌, ℕ, ◌+◌, ◌-◌, ◌*◌, ◌%◌, ◌≤◌, List, [], ◌∷◌, ◌++◌, length}
-use Rattle.terms.specs.declared.refusal.Refusal.{Refusal}
 use Rattle.terms.specs.declared.refusal.Refusal.TheVariants.{Form}
 use Rattle.submission.specs.Submissions.{Submission, Sound, RefusedForm, decode}
 use Rattle.report.specs.declared.verdict.Verdict.{Verdict}

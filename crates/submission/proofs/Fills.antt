@@ -1,14 +1,14 @@
 -- What the writes of `write` leave.
-use Rattle.std.proofs.Common.{◌≡◌, ℕ, ◌+◌, ◌*◌, ◌<◌, ◌≤◌, List, [], ◌∷◌, ◌++◌, length, get_or, take, drop, set, sym, refl, ap, ◌∙◌, subst, append_assoc, arith, length-set}
+use Rattle.std.proofs.Common.{◌≡◌, ℕ, ◌+◌, ◌*◌, ◌<◌, ◌≤◌, List, [], ◌∷◌, ◌++◌, length, get_or, take, drop, set, sym, ap, ◌∙◌, append_assoc, arith, length-set}
 use borrow.Rule.Slice.PartMut.{put_mid}
 use Rattle.std.specs.List.{flat_map}
 use Rattle.std.proofs.Concat.{flat_map-take_more}
 use Rattle.std.proofs.lemmas.List.{length-take-le, take_at, drop_at, drop-drop, drop_more, set_at, drop-set-lt, take_all}
 use Rattle.submission.specs.declared.line.Line.{Line}
 use Rattle.submission.specs.Words.{word, words_of}
-use Rattle.submission.specs.Submissions.{encode, Writable, Submission, decode}
+use Rattle.submission.specs.Submissions.{encode, Writable, decode}
 use Rattle.submission.specs.Writing.{Written}
-use Rattle.submission.proofs.Lines.{length_joined, length-encode}
+use Rattle.submission.proofs.Lines.{length_joined}
 use Rattle.submission.proofs.Forms.{decode-encode}
 
 pub first : (out : List ℕ) (w v : ℕ) → 1 ≤ length out → w ≡ v → set out 0 w ≡ v ∷ drop 1 (set out 0 w)

@@ -1,9 +1,9 @@
 -- Words that stand right at every place are a submission, and the other way round.
-use Rattle.std.proofs.Common.{◌≡◌, ℕ, zero, suc, ◌+◌, ◌-◌, ◌*◌, ◌/◌, ◌%◌, ◌^◌, ◌<◌, ◌≤◌, List, [], ◌∷◌, ◌++◌, length, get_or, take, drop, sym, refl, ap, ◌∙◌, subst, arith, length-drop, take-append-drop, get_or-drop}
+use Rattle.std.proofs.Common.{◌≡◌, ℕ, zero, suc, ◌+◌, ◌*◌, ◌<◌, List, [], ◌∷◌, ◌++◌, length, get_or, take, drop, sym, refl, ap, ◌∙◌, subst, arith, length-drop, take-append-drop, get_or-drop}
 use Rattle.std.specs.List.{flat_map}
 use Rattle.std.proofs.lemmas.List.{get_or_at}
 use Rattle.submission.specs.declared.line.Line.{Line}
-use Rattle.submission.specs.Words.{word, kind, payload, words_of, Fits}
+use Rattle.submission.specs.Words.{word, payload, words_of}
 use Rattle.submission.specs.Submissions.{encode, Writable, Submission, lines_of, decode}
 use Rattle.submission.specs.Places.{Stands}
 use Rattle.submission.specs.Reading.{OnlyWriting}

@@ -1,10 +1,9 @@
 -- What the reader keeps.
-use Rattle.std.proofs.Common.{◌≡◌, ℕ, zero, suc, ◌+◌, ◌-◌, ◌*◌, ◌/◌, ◌%◌, ◌<◌, ◌≤◌, List, [], ◌∷◌, ◌++◌, length, get_or, take, drop, sym, refl, ap, ◌∙◌, subst, arith, lit<, length-drop, get_or-drop}
+use Rattle.std.proofs.Common.{◌≡◌, ℕ, suc, ◌+◌, ◌-◌, ◌/◌, ◌<◌, List, ◌∷◌, length, get_or, take, drop, sym, refl, ap, ◌∙◌, arith, lit<, length-drop, get_or-drop}
 use Rattle.std.proofs.lemmas.List.{drop-drop, get_or-take}
-use Rattle.submission.specs.declared.line.Line.{Line}
-use Rattle.submission.specs.Words.{payload, words_of, line_of, Fits}
-use Rattle.submission.specs.Submissions.{Submission, lines_of, decode}
-use Rattle.submission.specs.Reading.{ahead, Ready, Opened, Ended, Handed}
+use Rattle.submission.specs.Words.{payload, words_of, line_of}
+use Rattle.submission.specs.Submissions.{Submission, lines_of}
+use Rattle.submission.specs.Reading.{Ready, Opened, Ended, Handed}
 use Rattle.submission.proofs.Lines.{Kinds, line-back, line-fits}
 use Rattle.submission.proofs.Forms.{formed, only_writing}
 

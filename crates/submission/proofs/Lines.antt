@@ -1,9 +1,9 @@
 -- The words of lines, and the lines of words.
-use Rattle.std.proofs.Common.{◌≡◌, ℕ, zero, suc, ◌+◌, ◌-◌, ◌*◌, ◌/◌, ◌%◌, ◌^◌, ◌<◌, ◌≤◌, List, [], ◌∷◌, ◌++◌, length, get_or, take, drop, sym, refl, ap, ◌∙◌, subst, ⊎_elim, arith, length-append, length-drop, get_or-drop, take-add}
+use Rattle.std.proofs.Common.{◌≡◌, ℕ, zero, suc, ◌+◌, ◌-◌, ◌*◌, ◌/◌, ◌%◌, ◌^◌, ◌<◌, ◌≤◌, List, [], ◌∷◌, ◌++◌, length, get_or, take, drop, refl, ap, ◌∙◌, subst, ⊎_elim, arith, length-append, length-drop, get_or-drop, take-add}
 use Rattle.std.specs.List.{flat_map, AllByRecursion}
 use Rattle.std.proofs.lemmas.Bool.{cases_lt}
 use Rattle.submission.specs.declared.line.Line.{Line}
-use Rattle.submission.specs.Words.{word, kind, payload, words_of, Fits, line_of}
+use Rattle.submission.specs.Words.{word, kind, words_of, Fits, line_of}
 use Rattle.submission.specs.Submissions.{encode, lines_of}
 
 -- the first n words of ws have the kinds of lines

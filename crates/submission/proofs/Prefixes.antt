@@ -1,5 +1,5 @@
 -- Where words first break the form.
-use Rattle.std.proofs.Common.{◌≡◌, ℕ, zero, suc, ◌+◌, ◌-◌, ◌*◌, ◌%◌, ◌<◌, ◌≤◌, cond, ltb, leb, List, [], ◌∷◌, ◌++◌, map, length, get_or, take, drop, sym, refl, ap, ◌∙◌, subst, ⊎_elim, arith}
+use Rattle.std.proofs.Common.{◌≡◌, ℕ, zero, suc, ◌+◌, ◌-◌, ◌*◌, ◌%◌, ◌<◌, ◌≤◌, cond, ltb, leb, List, [], ◌∷◌, map, length, get_or, take, drop, sym, refl, ap, ◌∙◌, subst, ⊎_elim, arith}
 use Rattle.std.specs.List.{range_with_len}
 use Rattle.std.proofs.lemmas.List.FromFn.{length-map-range_with_len, get_or-map-range_with_len}
 use Rattle.std.proofs.lemmas.List.Prefix.{front_fits, front_reads, front_from_reads}
@@ -7,7 +7,7 @@ use Rattle.std.proofs.lemmas.List.{get_or-take, length-take-le}
 use Rattle.std.proofs.lemmas.Bool.{cases_lt, lt-ltb, le-ltb, le-leb, lt-leb, cond-true, cond-false}
 use Rattle.submission.specs.declared.line.Line.{Line}
 use Rattle.submission.specs.Words.{word, payload}
-use Rattle.submission.specs.Submissions.{encode, Writable, Submission, Begins, Sound, Breaks}
+use Rattle.submission.specs.Submissions.{encode, Writable, Begins, Sound, Breaks}
 use Rattle.submission.specs.Places.{Stands}
 use Rattle.submission.proofs.Forms.{count, Formed, formed_back, formed_forth, formed}
 

@@ -1,5 +1,5 @@
 -- The form word by word, as the reader tests it. It is a step between the code and `Submission`, on which the public contracts rest.
-use Rattle.std.specs.Prelude.{◌≡◌, ℕ, ◌+◌, ◌-◌, ◌*◌, ◌%◌, ◌<◌, ◌≤◌, List, length, get_or}
+use Rattle.std.specs.Prelude.{◌≡◌, ℕ, ◌+◌, ◌-◌, ◌*◌, ◌%◌, ◌<◌, ◌≤◌}
 use Rattle.terms.specs.Ranges.{most_lines}
 use Rattle.submission.specs.Words.{kind, payload}
 

@@ -5,7 +5,6 @@ use Rattle.book.specs.States.{fresh}
 use Rattle.book.proofs.Worst.{Lawful}
 use Rattle.book.proofs.Words.{form_told}
 use Rattle.book.proofs.Main.{findings, lived-after}
-use Rattle.book.proofs.theorem.findings_stand.Given as given
 use Rattle.book.proofs.theorem.findings_stand.Goals as goal
 
 pub returns : goal.returns

@@ -1,4 +1,4 @@
-use Rattle.std.proofs.Common.{◌≡◌, length, ap, ◌∙◌, subst}
+use Rattle.std.proofs.Common.{length, ap, ◌∙◌, subst}
 use Rattle.submission.specs.Submissions.{Submission}
 use Rattle.report.proofs.input.judge_words.Goals as goal
 

@@ -1,4 +1,4 @@
-use Rattle.std.proofs.Common.{◌≡◌, ◌/◌, ◌<◌, length, set, sym, ◌∙◌, arith, length-set}
+use Rattle.std.proofs.Common.{◌/◌, ◌<◌, length, set, sym, ◌∙◌, arith, length-set}
 use Rattle.std.proofs.lemmas.List.{take_more_same, take-set, get_or-set_same}
 use Rattle.report.specs.Inputs.{whole_words}
 use Rattle.report.proofs.Bytes.{length-words, get_d_words}

@@ -1,4 +1,4 @@
-use Rattle.std.proofs.Common.{◌≡◌, sym, refl, ◌∙◌}
+use Rattle.std.proofs.Common.{sym, refl, ◌∙◌}
 use Rattle.calendar.specs.Figures.{figures, limit_figures}
 use Rattle.calendar.proofs.Counts.{limit_rows}
 use Rattle.calendar.proofs.Shown.{get_or_shown, numbered-place}

@@ -1,4 +1,4 @@
-use Rattle.std.proofs.Common.{◌≡◌, ℕ, suc, ◌+◌, ◌-◌, ◌*◌, ◌^◌, ◌<◌, ◌≤◌, Bool, cond, not, eqb, sym, ap, ◌∙◌, subst, arith, rules}
+use Rattle.std.proofs.Common.{◌≡◌, ℕ, suc, ◌+◌, ◌-◌, ◌*◌, ◌≤◌, Bool, cond, not, eqb, sym, ap, ◌∙◌, arith}
 use Rattle.calendar.specs.Figures.{figures}
 use Rattle.calendar.specs.Matrix.{pair_flow}
 use Rattle.calendar.specs.Rows.{row_mark}

@@ -1,4 +1,4 @@
-use Rattle.std.proofs.Common.{◌≡◌, ◌+◌, ◌<◌, sym, subst, arith, rules}
+use Rattle.std.proofs.Common.{◌≡◌, ◌+◌, ◌<◌, sym, subst, arith}
 use Rattle.calendar.specs.Calls.{with_row}
 use Rattle.calendar.specs.Figures.{figures, limit_count}
 use Rattle.calendar.specs.Matrix.{RowsSet}

@@ -5,7 +5,6 @@ use Rattle.book.specs.Views.{view}
 use Rattle.book.proofs.Worst.{Lawful}
 use Rattle.book.proofs.BothWays.{findings_as_stated}
 use Rattle.desk.proofs.Running.{lived_push, drop-next, lived-all}
-use Rattle.desk.proofs.desk.calls.run.Given as given
 use Rattle.desk.proofs.desk.calls.run.Goals as goal
 
 pub loop-i-preserved : goal.loop-i-preserved

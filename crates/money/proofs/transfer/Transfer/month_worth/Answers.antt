@@ -1,6 +1,6 @@
-use Rattle.std.proofs.Common.{◌≡◌, ◌*◌, ◌≤◌, ℤ, pos, ◌-ℤ◌, ◌*ℤ◌, ap, ◌∙◌, arith, w64, to_z, of_z}
+use Rattle.std.proofs.Common.{◌≡◌, ◌*◌, pos, ◌-ℤ◌, ◌*ℤ◌, ap, ◌∙◌, arith, w64, to_z, of_z}
 use Rattle.std.proofs.lemmas.Int.{ints}
-use Rattle.calendar.specs.Figures.{figures, hours, price}
+use Rattle.calendar.specs.Figures.{figures, price}
 use Rattle.money.proofs.Products.{energy_most}
 use Rattle.money.proofs.transfer.Transfer.month_worth.Goals as goal
 

@@ -1,4 +1,4 @@
-use Rattle.std.proofs.Common.{◌≡◌, ◌+◌, ◌<◌, ◌≤◌, length, sym, refl, ◌∙◌, arith}
+use Rattle.std.proofs.Common.{◌+◌, ◌<◌, length, sym, refl, ◌∙◌, arith}
 use Rattle.submission.proofs.Lines.{length-lines_of}
 use Rattle.submission.proofs.Hands.{ended, handed}
 use Rattle.submission.proofs.reader.Reader.next.Goals as goal
