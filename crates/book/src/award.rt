@@ -1,3 +1,5 @@
+ghost use Rattle.std.specs.Prelude.{◌≡◌};
+
 use terms::Refusal;
 
 mod numbers;
@@ -10,15 +12,15 @@ pub struct AwardNumbers {
     pub lines: u32,
 }
 
-// An accepted proposal through its challenge day. It ends in a book's `confirm` or `strike`:
-// nobody can show what its `drop` requires, so code that lets one go is not proved.
+// An accepted proposal through its challenge day. It ends in a book's `confirm` or `strike`: its `drop` asks for an award of
+// no lines, which no proposal hands out, so code that lets one go is not proved.
 pub struct Award {
     numbers: AwardNumbers,
 }
 
 impl Drop for Award {
     fn drop(self)
-        requires { ⊥ }
+        requires { self.numbers.lines ≡ 0 }
     {
         let Award { numbers: _ } = self;
     }
