@@ -1,33 +1,13 @@
 // Reads a submission from standard input and writes one line: whether it is well-formed.
 #![tactic(auto)]
 
-ghost use Rattle.std.specs.Prelude.{◌≤◌, length, IfOk};
-
-use report::{DECIDING_BYTES, LONGEST_LINE, answer};
+use report::{LONGEST_LINE, answer, read_input};
 use std::io;
-use std::io::{Read, Write};
-
-// Fills the buffer from the input as far as the input goes; answers how many bytes that is.
-fn fill(input: &mut impl Read, buffer: &mut [u8]) -> io::Result<usize>
-    ensures { IfOk result (λ n. n ≤ length buffer.old) }
-{
-    let mut count = 0;
-    while count < buffer.len() {
-        let more = input.read(&mut buffer[count..])?;
-        if more == 0 {
-            break;
-        }
-        count += more;
-    }
-    Ok(count)
-}
+use std::io::Write;
 
 fn main(rt: HostRuntime) -> io::Result<()> {
-    let mut input = [0; DECIDING_BYTES];
-    let count = fill(&mut rt.stdin(), &mut input)?;
+    let input = read_input(rt.stdin())?;
     let mut line = [0; LONGEST_LINE];
-    match answer(&input[0..count], &mut line) {
-        Ok(len) => rt.stdout().write_all(&line[0..len]),
-        Err(_) => Err(io::Error::other("the line does not fit")),
-    }
+    let len = answer(&input, &mut line).unwrap();
+    rt.stdout().write_all(&line[..len])
 }

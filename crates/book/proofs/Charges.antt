@@ -7,10 +7,11 @@ use Rattle.std.proofs.lemmas.Bool.{cond-true, cond-false, eq-eqb, ne_eqb}
 use Rattle.std.specs.List.{AllByRecursion}
 use Rattle.submission.specs.Submissions.{decode}
 use Rattle.submission.specs.declared.line.Line.{Line}
+use Rattle.book.specs.declared.right.Standing.TheVariants.{Provisional}
 use Rattle.book.specs.declared.right.Right.{Right}
 use Rattle.book.specs.Market.{Market}
 use Rattle.book.proofs.Bounded.{BoundedLines}
-use Rattle.book.specs.Rights.{total, debt, owed, right_of, in_force, provisional, numbered, all_confirmed, paying, paid_on, without, taking, write_off}
+use Rattle.book.specs.Rights.{is_in_force, paid_of, confirmed, total, debt, owed, right_of, in_force, provisional, numbered, all_confirmed, paying, paid_on, without, taking, write_off}
 use Rattle.book.specs.States.{State}
 use Rattle.book.specs.Refusing.{◌then◌}
 use Rattle.book.specs.Checks.{capacity_check, propose_check, award_check, pay_check, annul_check, deposit_check, withdraw_check, day_check}
@@ -20,9 +21,10 @@ use Rattle.book.specs.Events.{accepted, taken, written_off, confirming, pays, an
 use Rattle.book.specs.Histories.{History, Lived, standing, ever_confirmed, payments, takings, write_offs}
 use Rattle.book.specs.Findings.{Accounted}
 use Rattle.book.proofs.Lists.{Rising, rising_above, rising_append, rising_front, rising_numbered, all-zip, all_without}
+use Rattle.book.proofs.Standings.{by_standing, in_force-paying, debt-paying}
 use Rattle.book.proofs.Totals.{total-append, total-without, total-paid, right_of_serial}
 use Rattle.book.proofs.Refusals.{then_none}
-use Rattle.book.proofs.Sound.{Sound, Unpaid, payable, none_open, by_outcome}
+use Rattle.book.proofs.Sound.{Sound, payable, none_open, by_outcome}
 use Rattle.book.proofs.Accounts.{at_event, standing-lived, sound-lived, cond_zero}
 
 -- the charges of rights with a serial
@@ -37,40 +39,36 @@ owed-numbered : (s k : ℕ) (ls : List Line) → owed s (numbered k ls) ≡ 0
 owed-numbered s k [] = refl
 owed-numbered s k (x ∷ xs) = omega (arith, cond_zero (eqb k s), owed-numbered s (suc k) xs)
 
-becomes_due : (t live : Bool) (charge paid : ℕ) → (live ≡ false → paid ≡ 0) → cond t (cond (not live) charge 0) 0 + cond t (cond live (charge - paid) 0) 0 ≡ cond t (charge - paid) 0
-becomes_due true true charge paid h = omega arith
-becomes_due true false charge paid h = let z = h refl in omega arith
-becomes_due false live charge paid h = omega arith
+becomes_due : (t : Bool) (r : Right) → cond t (cond (not (is_in_force r)) r.line.charge 0) 0 + cond t (debt r) 0 ≡ cond t (debt (confirmed r)) 0
+becomes_due true r = by_standing (λ x. cond (not (is_in_force x)) x.line.charge 0 + debt x ≡ debt (confirmed x)) r (omega arith) (λ paid. omega arith)
+becomes_due false r = refl
 
-total-provisional : (s : ℕ) (r : Right) (rs : List Right) → total (charge_at s) (provisional (r ∷ rs)) ≡ cond (eqb r.serial s) (cond (not r.in_force) r.line.charge 0) 0 + total (charge_at s) (provisional rs)
+total-provisional : (s : ℕ) (r : Right) (rs : List Right) → total (charge_at s) (provisional (r ∷ rs)) ≡ cond (eqb r.serial s) (cond (not (is_in_force r)) r.line.charge 0) 0 + total (charge_at s) (provisional rs)
 total-provisional s r rs =
-    elim r.in_force as (λ t. total (charge_at s) (cond (not t) (r ∷ provisional rs) (provisional rs)) ≡ cond (eqb r.serial s) (cond (not t) r.line.charge 0) 0 + total (charge_at s) (provisional rs))
+    elim (is_in_force r) as (λ t. total (charge_at s) (cond (not t) (r ∷ provisional rs) (provisional rs)) ≡ cond (eqb r.serial s) (cond (not t) r.line.charge 0) 0 + total (charge_at s) (provisional rs))
     [ true ↦ omega (arith, cond_zero (eqb r.serial s)) | false ↦ refl ]
 
-owed-confirmed : (s : ℕ) (rs : List Right) → AllByRecursion Unpaid rs → total (charge_at s) (provisional rs) + owed s rs ≡ owed s (all_confirmed rs)
-owed-confirmed s [] h = omega arith
-owed-confirmed s (r ∷ rs) h =
-    omega (arith, total-provisional s r rs, becomes_due (eqb r.serial s) r.in_force r.line.charge r.paid h.0, owed-confirmed s rs h.1)
+owed-confirmed : (s : ℕ) (rs : List Right) → total (charge_at s) (provisional rs) + owed s rs ≡ owed s (all_confirmed rs)
+owed-confirmed s [] = omega arith
+owed-confirmed s (r ∷ rs) = omega (arith, total-provisional s r rs, becomes_due (eqb r.serial s) r, owed-confirmed s rs)
 
 owed-in_force : (s : ℕ) (rs : List Right) → owed s (in_force rs) ≡ owed s rs
 owed-in_force s [] = refl
 owed-in_force s (r ∷ rs) =
     let rest = owed-in_force s rs in
-    (elim r.in_force as (λ t. r.in_force ≡ t → owed s (cond t (r ∷ in_force rs) (in_force rs)) ≡ owed s (r ∷ rs)) [
+    (elim (is_in_force r) as (λ t. is_in_force r ≡ t → owed s (cond t (r ∷ in_force rs) (in_force rs)) ≡ owed s (r ∷ rs)) [
       | true ↦ (λ e. omega arith)
-      | false ↦ (λ e. omega (arith, cond_zero (eqb r.serial s), ap (λ z. cond (eqb r.serial s) z 0) (cond-false r.in_force (r.line.charge - r.paid) 0 e)))
+      | false ↦ (λ e. omega (arith, cond_zero (eqb r.serial s), ap (λ z. cond (eqb r.serial s) z 0) (cond-false (is_in_force r) (r.line.charge - (paid_of r)) 0 e)))
     ]) refl
 
 shares : (t : Bool) (a b c : ℕ) → a + b ≡ c → cond t a 0 + cond t b 0 ≡ cond t c 0
 shares true a b c h = h
 shares false a b c h = omega arith
 
-owed_paid : (s t n : ℕ) (rs : List Right) (r : Right) → right_of t rs ≡ Some r → r.in_force ≡ true → n ≤ debt r → owed s rs ≡ cond (eqb t s) n 0 + owed s (paid_on t n rs)
-owed_paid s t n rs r there live enough =
+owed_paid : (s t n : ℕ) (rs : List Right) (r : Right) → right_of t rs ≡ Some r → n ≤ debt r → owed s rs ≡ cond (eqb t s) n 0 + owed s (paid_on t n rs)
+owed_paid s t n rs r there enough =
     let whole = total-paid (debt_at s) t n rs r there in
-    let now' = cond-true r.in_force (r.line.charge - r.paid) 0 live in
-    let then' = cond-true r.in_force (r.line.charge - (r.paid + n)) 0 live in
-    let split = shares (eqb r.serial s) (debt (paying r n)) n (debt r) (omega arith) in
+    let split = shares (eqb r.serial s) (debt (paying r n)) n (debt r) (omega (arith, debt-paying r n)) in
     omega (arith, ap (λ z. cond (eqb z s) n 0) (right_of_serial t rs r there))
 
 owed-without : (s t : ℕ) (rs : List Right) (r : Right) → right_of t rs ≡ Some r → owed s rs ≡ owed s (without t rs) + cond (eqb t s) (taking r) 0 + cond (eqb t s) (write_off r) 0
@@ -100,7 +98,7 @@ module _ (m : Market) (b : State) (is : Sound m b) (s : ℕ) where
       by_outcome (Owes s b (Propose ws)) (propose_check m b ws then capacity_check m (b.rights ++ numbered b.next (decode ws))) b _ _ (λ e. omega arith)
       (λ h. omega (arith, total-append (debt_at s) b.rights (numbered b.next (decode ws)), owed-numbered s b.next (decode ws)))
   owes_act (Confirm book first lines) =
-      by_outcome (Owes s b (Confirm book first lines)) (award_check b book first lines) b _ _ (λ e. omega arith) (λ h. omega (arith, owed-confirmed s b.rights is.unpaid))
+      by_outcome (Owes s b (Confirm book first lines)) (award_check b book first lines) b _ _ (λ e. omega arith) (λ h. omega (arith, owed-confirmed s b.rights))
   owes_act (Strike book first lines) =
       by_outcome (Owes s b (Strike book first lines)) (award_check b book first lines) b _ _ (λ e. omega arith) (λ h. omega (arith, owed-in_force s b.rights))
   owes_act (Pay t amount) = go (right_of t b.rights) refl
@@ -109,7 +107,7 @@ module _ (m : Market) (b : State) (is : Sound m b) (s : ℕ) where
       go None e = omega arith
       go (Some r) e =
           by_outcome (Owes s b (Pay t amount)) (pay_check amount r) b _ _ (λ _. omega arith)
-          (λ h. let p = payable amount r h in omega (arith, owed_paid s t amount b.rights r e p.0 p.1))
+          (λ h. let p = payable amount r h in omega (arith, owed_paid s t amount b.rights r e p.1))
   owes_act (Annul t) = owes_annul t
   owes_act (Deposit x amount) = by_outcome (Owes s b (Deposit x amount)) (deposit_check b x amount) b _ _ (λ e. omega arith) (λ h. omega arith)
   owes_act (Withdraw x amount) = by_outcome (Owes s b (Withdraw x amount)) (withdraw_check b x amount) b _ _ (λ e. omega arith) (λ h. omega arith)
@@ -131,19 +129,19 @@ provisional-confirmed (r ∷ rs) = provisional-confirmed rs
 
 provisional-numbered : (k : ℕ) (ls : List Line) → provisional (numbered k ls) ≡ numbered k ls
 provisional-numbered k [] = refl
-provisional-numbered k (x ∷ xs) = ap (λ rs. record { serial = k; line = x; in_force = false; paid = 0 } ∷ rs) (provisional-numbered (suc k) xs)
+provisional-numbered k (x ∷ xs) = ap (λ rs. record { serial = k; line = x; standing = Provisional } ∷ rs) (provisional-numbered (suc k) xs)
 
-provisional_none : (rs : List Right) → AllByRecursion (λ r. r.in_force ≡ true) rs → provisional rs ≡ []
+provisional_none : (rs : List Right) → AllByRecursion (λ r. is_in_force r ≡ true) rs → provisional rs ≡ []
 provisional_none [] h = refl
 provisional_none (r ∷ rs) h = ap (λ t. cond (not t) (r ∷ provisional rs) (provisional rs)) h.0 ∙ provisional_none rs h.1
 
-provisional-paid : (s n : ℕ) (rs : List Right) (r : Right) → right_of s rs ≡ Some r → r.in_force ≡ true → provisional (paid_on s n rs) ≡ provisional rs
+provisional-paid : (s n : ℕ) (rs : List Right) (r : Right) → right_of s rs ≡ Some r → is_in_force r ≡ true → provisional (paid_on s n rs) ≡ provisional rs
 provisional-paid s n [] r e live = refl
 provisional-paid s n (y ∷ rs) r e live =
     (elim (eqb y.serial s) as (λ t. cond t (Some y) (right_of s rs) ≡ Some r → provisional (cond t (paying y n ∷ rs) (y ∷ paid_on s n rs)) ≡ provisional (y ∷ rs)) [
-      | true ↦ (λ k. let q : y ≡ r = cc in let on : y.in_force ≡ true = ap (λ z. z.in_force) q ∙ live in
-          ap (λ t. cond (not t) (paying y n ∷ provisional rs) (provisional rs)) on ∙ sym (ap (λ t. cond (not t) (y ∷ provisional rs) (provisional rs)) on))
-      | false ↦ (λ k. ap (λ xs. cond (not y.in_force) (y ∷ xs) xs) (provisional-paid s n rs r k live))
+      | true ↦ (λ k. let q : y ≡ r = cc in let on : is_in_force y ≡ true = ap is_in_force q ∙ live in
+          ap (λ t. cond (not t) (paying y n ∷ provisional rs) (provisional rs)) (in_force-paying y n ∙ on) ∙ sym (ap (λ t. cond (not t) (y ∷ provisional rs) (provisional rs)) on))
+      | false ↦ (λ k. ap (λ xs. cond (not (is_in_force y)) (y ∷ xs) xs) (provisional-paid s n rs r k live))
     ]) e
 
 abbrev Ordered : List Right → State → Call → Outcome → Type 0
@@ -165,18 +163,18 @@ module _ (m : Market) (b : State) (is : Sound m b) (ec : List Right) (up : Risin
           by_outcome (Ordered ec b (Annul t)) (annul_check m b r then capacity_check m (without t b.rights)) b _ _ (λ e. ordered_same)
           (λ h.
           let p = then_none (annul_check m b r) _ h in
-          ordered_front (provisional (without t b.rights)) (provisional_none (without t b.rights) (all_without (λ r. r.in_force ≡ true) t b.rights (is.settled (none_open m b r p.0)))))
+          ordered_front (provisional (without t b.rights)) (provisional_none (without t b.rights) (all_without (λ r. is_in_force r ≡ true) t b.rights (is.settled (none_open m b r p.0)))))
 
   ordered_act : (c : Call) → Ordered ec b c (act m b c)
   ordered_act (Propose ws) =
       by_outcome (Ordered ec b (Propose ws)) (propose_check m b ws then capacity_check m (b.rights ++ numbered b.next (decode ws))) b _ _ (λ e. ordered_same)
-      (λ h. rw (append-nil, filter-append (λ r. not r.in_force) b.rights (numbered b.next (decode ws)), provisional-numbered b.next (decode ws), ← append_assoc ec (provisional b.rights) (numbered b.next (decode ws)))
+      (λ h. rw (append-nil, filter-append (λ r. not (is_in_force r)) b.rights (numbered b.next (decode ws)), provisional-numbered b.next (decode ws), ← append_assoc ec (provisional b.rights) (numbered b.next (decode ws)))
       (rising_append 0 b.next (b.next + length (decode ws)) (ec ++ provisional b.rights) (numbered b.next (decode ws)) up (rising_numbered b.next (decode ws))))
   ordered_act (Confirm book first lines) =
       by_outcome (Ordered ec b (Confirm book first lines)) (award_check b book first lines) b _ _ (λ e. ordered_same) (λ h. rw (provisional-confirmed b.rights, append-nil) up)
   ordered_act (Strike book first lines) =
       by_outcome (Ordered ec b (Strike book first lines)) (award_check b book first lines) b _ _ (λ e. ordered_same)
-      (λ h. ordered_front (provisional (in_force b.rights)) (provisional_none (in_force b.rights) (kept_by_passes (λ r. r.in_force) b.rights)))
+      (λ h. ordered_front (provisional (in_force b.rights)) (provisional_none (in_force b.rights) (kept_by_passes is_in_force b.rights)))
   ordered_act (Pay t amount) = go (right_of t b.rights) refl
     where
       go : (o : Option Right) → right_of t b.rights ≡ o → Ordered ec b (Pay t amount) (pay_right b t amount o)

@@ -1,8 +1,8 @@
 -- What a check says where it refuses and where it does not.
-use Rattle.std.proofs.Common.{◌≡◌, ℕ, suc, ◌+◌, ◌-◌, ◌≤◌, true, false, cond, eqb, ltb, List, [], ◌∷◌, length, ℤ, ◌-ℤ◌, nat_abs, ◌≤ℤ◌, ◌<ℤ◌, Some, None, ap, arith}
+use Rattle.std.proofs.Common.{◌≡◌, ℕ, suc, ◌+◌, ◌-◌, ◌≤◌, true, false, cond, eqb, List, [], ◌∷◌, ℤ, ◌-ℤ◌, nat_abs, ◌≤ℤ◌, ◌<ℤ◌, Some, None, ap, arith}
 use lib.Signed.{lt_z}
 use Rattle.std.proofs.lemmas.Int.{ints}
-use Rattle.std.proofs.lemmas.Bool.{ltb-false, or_parts, cond_both, eqb-true}
+use Rattle.std.proofs.lemmas.Bool.{ltb-false, cond_both, eqb-true}
 use Rattle.std.specs.List.{AllByRecursion}
 use Rattle.submission.specs.declared.line.Line.{Line}
 use Rattle.book.specs.declared.right.Right.{Right}
@@ -15,7 +15,7 @@ use Rattle.book.specs.Rights.{guarantee, asked_of}
 use Rattle.book.specs.Loads.{bound, load, Listed}
 use Rattle.book.specs.States.{State, free_part}
 use Rattle.book.specs.Refusing.{first_of}
-use Rattle.book.specs.Checks.{limit_check, capacity_check, factor_check, cover_check, lines_check, room_for}
+use Rattle.book.specs.Checks.{limit_check, capacity_check, factor_check, cover_check, lines_check}
 use Rattle.book.proofs.Worst.{Fits}
 use Rattle.book.proofs.Refusals.{then_none, refuse_none, refuse_some, first_none, first_some}
 
@@ -73,9 +73,3 @@ covered_from_lines m b place earlier (l ∷ ls) h x k =
     (λ e. omega arith) in
     let rest = covered_from_lines m b (suc place) (l ∷ earlier) ls r.1 x more in
     omega arith
-
--- room for so many lines: rows, and serials
-pub room_enough : (b : State) (lines : ℕ) → room_for b lines ≡ None → (length b.rights + lines ≤ 96) × (b.next + lines ≤ 1000001)
-room_enough b lines h =
-    let p = or_parts (ltb 96 (length b.rights + lines)) (ltb 1000001 (b.next + lines)) (refuse_none _ _ h) in
-    (ltb-false 96 (length b.rights + lines) p.0, ltb-false 1000001 (b.next + lines) p.1)

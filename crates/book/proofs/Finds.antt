@@ -1,6 +1,11 @@
 -- The place of a serial: which right it has, and what a change there makes of the rights.
-use Rattle.std.proofs.Common.{◌≡◌, ℕ, zero, suc, ◌+◌, ◌<◌, cond, eqb, List, [], ◌∷◌, ◌++◌, length, get_or, take, drop, set, Some, None, sym, refl, ap, ◌∙◌, arith}
-use Rattle.std.proofs.lemmas.Bool.{cond-true, cond-false, eq-eqb, ne_eqb}
+use Rattle.std.proofs.Common.{◌≡◌, ℕ, zero, suc, ◌+◌, ◌<◌, ◌≤◌, cond, eqb, List, [], ◌∷◌, ◌++◌, length, get_or, take, drop, set, Some, None, Option, sym, refl, ap, ◌∙◌, arith}
+use Rattle.std.specs.Prelude.{MatchOption}
+use Rattle.std.specs.List.{position, position_or_len}
+use Rattle.std.proofs.lemmas.List.Quantifiers.{position-Some}
+use Rattle.std.proofs.lemmas.List.Sums.{fails_before_first}
+use Rattle.std.proofs.lemmas.Grind.{common_steps}
+use Rattle.std.proofs.lemmas.Bool.{cond-true, cond-false, eq-eqb, ne_eqb, eqb-true, eqb-false}
 use Rattle.book.specs.declared.right.Right.{Right}
 use Rattle.book.specs.Rows.{empty}
 use Rattle.book.specs.Rights.{right_of, paying, paid_on, without}
@@ -9,6 +14,16 @@ use Rattle.book.specs.Tables.{removed, FirstAt}
 pub none_of : (s : ℕ) (rs : List Right) → ((k : ℕ) → k < length rs → (get_or rs k empty).serial ≡ s → ⊥) → right_of s rs ≡ None
 none_of s [] h = refl
 none_of s (r ∷ rs) h = cond-false (eqb r.serial s) (Some r) (right_of s rs) (ne_eqb r.serial s (h 0 (omega arith))) ∙ none_of s rs (λ k l. h (suc k) (omega arith))
+
+-- the first place at which a serial stands
+pub first_place : (s : ℕ) (rs : List Right) (o : Option ℕ) → position (λ r. eqb r.serial s) rs ≡ o → MatchOption o (right_of s rs ≡ None) (FirstAt s rs)
+first_place s rs None h =
+    let p = λ (r : Right). eqb r.serial s in
+    let past : length rs ≤ position_or_len p rs = grind (arith, common_steps) in
+    none_of s rs (λ k l. eqb-false _ _ (fails_before_first p rs k empty (omega arith)))
+first_place s rs (Some at) h =
+    let p = position-Some (λ r. eqb r.serial s) rs at empty h in
+    record { inside = p.0; its = eqb-true _ _ p.1; none_before = λ k l. eqb-false _ _ (p.2 k l) }
 
 next : (s : ℕ) (r : Right) (rs : List Right) (at : ℕ) → FirstAt s (r ∷ rs) (suc at) → FirstAt s rs at
 next s r rs at f = record { inside = omega (arith, f.inside); its = f.its; none_before = λ k l. f.none_before (suc k) (omega arith) }

@@ -1,6 +1,7 @@
 pub mod Refusals
 pub mod Bounded
 pub mod Lists
+pub mod Standings
 pub mod Totals
 pub mod Worst
 pub mod Checks
@@ -14,13 +15,10 @@ pub mod BothWays
 pub mod Words
 pub mod Faults
 pub mod Tables
-pub mod Moves
 pub mod Smalls
 pub mod Finds
 pub mod Kept
-pub mod Helds
 pub mod Outcomes
-pub mod Marking
 pub mod Sums
 pub mod Ranges
 pub mod Covering

@@ -1,8 +1,9 @@
 -- Lists of rights: what holds of each, serials that rise, and sums.
-use Rattle.std.proofs.Common.{ℕ, suc, ◌+◌, ◌≤◌, Bool, false, eqb, List, [], ◌∷◌, ◌++◌, length, filter, arith}
+use Rattle.std.proofs.Common.{ℕ, suc, ◌+◌, ◌≤◌, Bool, eqb, List, [], ◌∷◌, ◌++◌, length, filter, arith}
 use Rattle.std.proofs.lemmas.Bool.{cond_both}
 use Rattle.std.specs.List.{AllByRecursion}
 use Rattle.submission.specs.declared.line.Line.{Line}
+use Rattle.book.specs.declared.right.Standing.TheVariants.{Provisional}
 use Rattle.book.specs.declared.right.Right.{Right}
 use Rattle.book.specs.Rights.{numbered, confirmed, all_confirmed, paying, paid_on, without}
 
@@ -77,6 +78,6 @@ pub all_without : (P : Right → Type 0) (s : ℕ) (rs : List Right) → AllByRe
 all_without P s [] h = tt
 all_without P s (r ∷ rs) h = cond_both (eqb r.serial s) rs (r ∷ without s rs) (AllByRecursion P) (λ _. h.1) (λ _. (h.0, all_without P s rs h.1))
 
-pub all-numbered : (P : Right → Type 0) (Q : Line → Type 0) → ((k : ℕ) (x : Line) → Q x → P (record { serial = k; line = x; in_force = false; paid = 0 })) → (k : ℕ) (ls : List Line) → AllByRecursion Q ls → AllByRecursion P (numbered k ls)
+pub all-numbered : (P : Right → Type 0) (Q : Line → Type 0) → ((k : ℕ) (x : Line) → Q x → P (record { serial = k; line = x; standing = Provisional })) → (k : ℕ) (ls : List Line) → AllByRecursion Q ls → AllByRecursion P (numbered k ls)
 all-numbered P Q f k [] h = tt
 all-numbered P Q f k (x ∷ xs) h = (f k x h.0, all-numbered P Q f (suc k) xs h.1)

@@ -3,7 +3,7 @@ use Rattle.std.proofs.Common.{ℕ, ◌≤◌, List, [], ◌∷◌, refl}
 use Rattle.std.proofs.ByRecursion.{all_kept_by}
 use Rattle.book.specs.Market.{Market}
 use Rattle.book.proofs.Bounded.{bounded_lines}
-use Rattle.book.specs.Rights.{in_force}
+use Rattle.book.specs.Rights.{is_in_force, in_force}
 use Rattle.book.specs.States.{State}
 use Rattle.book.specs.Calls.{Call, act}
 use Rattle.book.specs.Histories.{History, Lived, event, state_after, history_after}
@@ -19,7 +19,7 @@ findings m allowed laws n h b l =
     let is = sound-lived m law n h b l in
     record {
       within = rw (standing-lived m n h b l) (within_from_fits m allowed laws b.rights is.small is.fits);
-      within_in_force = rw (standing-lived m n h b l) (within_from_fits m allowed laws (in_force b.rights) (all_kept_by (λ r. r.in_force) (λ r. r.line.power ≤ 1000000) b.rights is.small) is.fits-in_force);
+      within_in_force = rw (standing-lived m n h b l) (within_from_fits m allowed laws (in_force b.rights) (all_kept_by is_in_force (λ r. r.line.power ≤ 1000000) b.rights is.small) is.fits-in_force);
       proposals = proposals-lived m allowed laws law n h b l;
       annulments = annulments-lived m allowed laws law n h b l;
       charges = accounted_lived m law n h b l;

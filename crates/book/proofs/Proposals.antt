@@ -1,4 +1,4 @@
--- The outcome of a proposal and of an annulment, by what their checks say in turn.
+-- The outcome of a proposal, and of an annulment that is granted, by what their checks say in turn.
 use Rattle.std.proofs.Common.{◌≡◌, ℕ, ◌-◌, Bool, true, false, not, List, [], ◌++◌, length, is_some, Some, None, Option, sym, refl, ap, ◌∙◌, subst}
 use Rattle.std.specs.Option.{option_map}
 use Rattle.terms.specs.declared.refusal.Refusal.{Refusal}
@@ -8,7 +8,7 @@ use Rattle.book.specs.declared.ledger.Pending.{Pending}
 use Rattle.book.specs.declared.right.Right.{Right}
 use Rattle.book.specs.Market.{Market}
 use Rattle.book.specs.Refusing.{◌then◌, refuse_if}
-use Rattle.book.specs.Rights.{right_of, numbered, without, taking, write_off}
+use Rattle.book.specs.Rights.{is_in_force, right_of, numbered, without, taking, write_off}
 use Rattle.book.specs.States.{State, balance, entered, with_rights, with_balance}
 use Rattle.book.specs.Views.{numbers}
 use Rattle.book.specs.Forms.{form_check}
@@ -75,36 +75,17 @@ module _ (m : Market) (b : State) (s : ℕ) (r : Right) (there : right_of s b.ri
   abbrev cleared : State
   cleared = with_balance (with_rights b (without s b.rights)) r.line.holder (balance b r.line.holder - taking r)
 
-  annul-refused : (e : Refusal) → annul_check m b r then capacity_check m (without s b.rights) ≡ Some e → Is (annul m b s) (Refused e) b
-  annul-refused e h =
-      subst (λ o. Is (annul_right m b s o) (Refused e) b) (sym there)
-      (refused_by (annul_check m b r then capacity_check m (without s b.rights)) b (Annulled (taking r) (write_off r)) cleared e h)
-
-  pub annul-provisional : r.in_force ≡ false → Is (annul m b s) (Refused Unknown) b
-  annul-provisional t =
-      annul-refused Unknown (then_stop (annul_check m b r) (capacity_check m (without s b.rights)) Unknown
-      (then_stop (known_check r) (open_check b then refuse_if (not (overdue_on m b.day r)) NotOverdue) Unknown (ap (λ x. refuse_if (not x) Unknown) t)))
-
-  module _ (live : r.in_force ≡ true) where
+  module _ (live : is_in_force r ≡ true) where
     after_known : annul_check m b r ≡ open_check b then refuse_if (not (overdue_on m b.day r)) NotOverdue
     after_known = then_skip (known_check r) (open_check b then refuse_if (not (overdue_on m b.day r)) NotOverdue) (ap (λ x. refuse_if (not x) Unknown) live)
-
-    pub annul_open : is_some b.pending ≡ true → Is (annul m b s) (Refused AwardOpen) b
-    annul_open e = annul-refused AwardOpen (then_stop (annul_check m b r) (capacity_check m (without s b.rights)) AwardOpen (after_known ∙ then_stop (open_check b) (refuse_if (not (overdue_on m b.day r)) NotOverdue) AwardOpen (award_open b e)))
 
     module _ (none : is_some b.pending ≡ false) where
       after_opening : (x : Bool) → overdue_on m b.day r ≡ x → annul_check m b r ≡ refuse_if (not x) NotOverdue
       after_opening x e = after_known ∙ then_skip (open_check b) (refuse_if (not (overdue_on m b.day r)) NotOverdue) (no_award b none) ∙ ap (λ t. refuse_if (not t) NotOverdue) e
 
-      pub annul_early : overdue_on m b.day r ≡ false → Is (annul m b s) (Refused NotOverdue) b
-      annul_early e = annul-refused NotOverdue (then_stop (annul_check m b r) (capacity_check m (without s b.rights)) NotOverdue (after_opening false e))
-
       module _ (late : overdue_on m b.day r ≡ true) (after : List Right) (those : after ≡ without s b.rights) where
         annul_is : (o : Option Refusal) → capacity_check m after ≡ o → annul_check m b r then capacity_check m (without s b.rights) ≡ o
         annul_is o h = then_skip (annul_check m b r) (capacity_check m (without s b.rights)) (after_opening true late) ∙ ap (capacity_check m) (sym those) ∙ h
-
-        pub annul_too_much : (e : Refusal) → capacity_check m after ≡ Some e → Is (annul m b s) (Refused e) b
-        annul_too_much e h = annul-refused e (annul_is (Some e) h)
 
         pub annul_granted : capacity_check m after ≡ None → Is (annul m b s) (Annulled (taking r) (write_off r)) cleared
         annul_granted h =

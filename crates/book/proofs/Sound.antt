@@ -12,7 +12,7 @@ use Rattle.book.specs.declared.right.Right.{Right}
 use Rattle.terms.specs.declared.refusal.Refusal.{Refusal}
 use Rattle.book.specs.Market.{Market}
 use Rattle.book.proofs.Bounded.{BoundedLines}
-use Rattle.book.specs.Rights.{debt, held, held_of, right_of, in_force, numbered, confirmed, all_confirmed, paying, paid_on, without, taking}
+use Rattle.book.specs.Rights.{is_in_force, debt, held, held_of, right_of, in_force, numbered, confirmed, all_confirmed, paying, paid_on, without, taking}
 use Rattle.book.specs.Loads.{counts, factor, worst_at, bound, load}
 use Rattle.book.specs.Forms.{form_check}
 use Rattle.book.specs.States.{State, fresh, balance, free_part, with_balance}
@@ -22,7 +22,8 @@ use Rattle.book.specs.Calls.{Call, Answer, Outcome, outcome, propose, confirm, s
 use Rattle.book.specs.Calls.Call.{Propose, Confirm, Strike, Pay, Annul, Deposit, Withdraw, SetDay}
 use Rattle.book.specs.Calls.Answer.{Refused}
 use Rattle.book.proofs.Lists.{Rising, rising_append, rising_numbered, rising_kept, rising_confirmed, rising_paid, rising_without, all_confirmed-all, all_paid, all_without, all-numbered}
-use Rattle.book.proofs.Totals.{total-append, total-kept_le, total-without, all-paid_at, held_of-confirmed, held_of-paid, held_of-numbered, balance-set}
+use Rattle.book.proofs.Standings.{in_force-paying}
+use Rattle.book.proofs.Totals.{total-append, total-kept_le, total-without, held_of-confirmed, held_of-paid, held_of-numbered, balance-set}
 use Rattle.book.proofs.Worst.{Small, Fits}
 use Rattle.book.proofs.Refusals.{then_none, refuse_none}
 use Rattle.book.proofs.Checks.{fits_from_check, small_from_lines, covered_from_lines}
@@ -41,7 +42,7 @@ in_force-numbered k [] = refl
 in_force-numbered k (x ∷ xs) = in_force-numbered (suc k) xs
 
 pub in_force-awarded : (rs : List Right) (k : ℕ) (ls : List Line) → in_force (rs ++ numbered k ls) ≡ in_force rs
-in_force-awarded rs k ls = filter-append (λ r. r.in_force) rs (numbered k ls) ∙ ap (λ xs. in_force rs ++ xs) (in_force-numbered k ls) ∙ append-nil (in_force rs)
+in_force-awarded rs k ls = filter-append is_in_force rs (numbered k ls) ∙ ap (λ xs. in_force rs ++ xs) (in_force-numbered k ls) ∙ append-nil (in_force rs)
 
 module _ (m : Market) (month limit : ℕ) where
   abbrev one_load : Right → ℤ
@@ -60,8 +61,8 @@ module _ (m : Market) (month limit : ℕ) where
   load-in_force-paid s n [] = refl
   load-in_force-paid s n (r ∷ rs) =
       cond_both (eqb r.serial s) (paying r n ∷ rs) (r ∷ paid_on s n rs) (λ xs. load m month limit (in_force xs) ≡ load m month limit (in_force (r ∷ rs)))
-      (λ _. elim r.in_force as (λ t. load m month limit (cond t (paying r n ∷ in_force rs) (in_force rs)) ≡ load m month limit (cond t (r ∷ in_force rs) (in_force rs))) [ true ↦ refl | false ↦ refl ])
-      (λ _. elim r.in_force as (λ t. load m month limit (cond t (r ∷ in_force (paid_on s n rs)) (in_force (paid_on s n rs))) ≡ load m month limit (cond t (r ∷ in_force rs) (in_force rs)))
+      (λ _. ap (λ t. load m month limit (cond t (paying r n ∷ in_force rs) (in_force rs))) (in_force-paying r n) ∙ (elim (is_in_force r) as (λ t. load m month limit (cond t (paying r n ∷ in_force rs) (in_force rs)) ≡ load m month limit (cond t (r ∷ in_force rs) (in_force rs))) [ true ↦ refl | false ↦ refl ]))
+      (λ _. elim (is_in_force r) as (λ t. load m month limit (cond t (r ∷ in_force (paid_on s n rs)) (in_force (paid_on s n rs))) ≡ load m month limit (cond t (r ∷ in_force rs) (in_force rs)))
       [ true ↦ ap (λ z. one_load r +ℤ z) (load-in_force-paid s n rs) | false ↦ load-in_force-paid s n rs ])
 
 fits-same : (m : Market) (xs ys : List Right) → ((month limit : ℕ) → load m month limit ys ≡ load m month limit xs) → Fits m xs → Fits m ys
@@ -78,11 +79,11 @@ some_none : {X Y : Type 0} (x : X) → ◌≡◌ {A = Option X} (Some x) None �
 some_none x h = let z : ◌≡◌ {A = ℕ} 0 1 = cc in absurd (omega arith)
 
 -- a payment that passes is on a right in force, and no more than it owes
-pub payable : (amount : ℕ) (r : Right) → pay_check amount r ≡ None → (r.in_force ≡ true) × (amount ≤ debt r)
+pub payable : (amount : ℕ) (r : Right) → pay_check amount r ≡ None → (is_in_force r ≡ true) × (amount ≤ debt r)
 payable amount r h =
     let p = then_none (known_check r) _ h in
     let q = or_parts (eqb amount 0) (ltb (debt r) amount) (refuse_none _ _ p.1) in
-    (not-false r.in_force (refuse_none _ _ p.0), ltb-false (debt r) amount q.1)
+    (not-false (is_in_force r) (refuse_none _ _ p.0), ltb-false (debt r) amount q.1)
 
 -- an annulment that passes finds no award open
 pub none_open : (m : Market) (b : State) (r : Right) → annul_check m b r ≡ None → b.pending ≡ None
@@ -90,17 +91,13 @@ none_open m b r h =
     let p = then_none (known_check r) _ h in
     none_from_is_some b.pending (refuse_none _ _ (then_none (open_check b) _ p.1).0)
 
-abbrev pub Unpaid : Right → Type 0
-Unpaid r = r.in_force ≡ false → r.paid ≡ 0
-
 pub record Sound (m : Market) (b : State) : Type 0 where
   pub law : BoundedLines m
   pub small : Small b.rights
   pub rising : Rising 0 b.rights b.next
   pub fits : Fits m b.rights
   pub fits-in_force : Fits m (in_force b.rights)
-  pub settled : b.pending ≡ None → AllByRecursion (λ r. r.in_force ≡ true) b.rights
-  pub unpaid : AllByRecursion Unpaid b.rights
+  pub settled : b.pending ≡ None → AllByRecursion (λ r. is_in_force r ≡ true) b.rights
   pub holders : length b.balances ≡ 32
   pub covered : (x : ℕ) → held_of x b.rights ≤ balance b x
 
@@ -109,7 +106,7 @@ by_outcome P None b a d refused granted = granted refl
 by_outcome P (Some e) b a d refused granted = refused e
 
 pub sound-fresh : (m : Market) → BoundedLines m → (n : ℕ) → Sound m (fresh n)
-sound-fresh m law n = record { law = law; small = tt; rising = omega arith; fits = fits_none m; fits-in_force = fits_none m; settled = λ _. tt; unpaid = tt; holders = refl; covered = λ x. omega arith }
+sound-fresh m law n = record { law = law; small = tt; rising = omega arith; fits = fits_none m; fits-in_force = fits_none m; settled = λ _. tt; holders = refl; covered = λ x. omega arith }
 
 less_held : (t : Bool) (w one all bal left take : ℕ) → (t ≡ true → bal ≡ left) → take ≤ one → w + cond t one 0 ≡ all → all ≤ left → w ≤ cond t (bal - take) left
 less_held true w one all bal left take e k s h = let q = e refl in omega arith
@@ -146,17 +143,12 @@ module _ (m : Market) (b : State) (is : Sound m b) where
         fits = fits_from_check m (b.rights ++ numbered b.next (decode ws)) p.1;
         fits-in_force = rw in_force-awarded is.fits-in_force;
         settled = λ e. some_none _ e;
-        unpaid = All-append Unpaid b.rights (numbered b.next (decode ws)) is.unpaid (all-numbered Unpaid (λ _. Unit {0}) (λ k x y e. refl) b.next (decode ws) (all_lines (decode ws)));
         holders = is.holders;
         covered = λ x.
             let old = is.covered x in
             let new = covered_from_lines m b 1 [] (decode ws) lines x (omega arith) in
             omega (arith, total-append (λ r. cond (eqb r.line.holder x) (held r) 0) b.rights (numbered b.next (decode ws)), held_of-numbered x b.next (decode ws));
       })
-    where
-      all_lines : (xs : List Line) → AllByRecursion (λ _. Unit {0}) xs
-      all_lines [] = tt
-      all_lines (x ∷ xs) = (tt, all_lines xs)
 
   sound-confirm : (book first lines : ℕ) → Sound m (confirm b book first lines).after
   sound-confirm book first lines =
@@ -168,32 +160,26 @@ module _ (m : Market) (b : State) (is : Sound m b) where
         fits = fits-same m b.rights (all_confirmed b.rights) (λ month limit. load-confirmed m month limit b.rights) is.fits;
         fits-in_force = rw in_force-confirmed (fits-same m b.rights (all_confirmed b.rights) (λ month limit. load-confirmed m month limit b.rights) is.fits);
         settled = λ _. every b.rights;
-        unpaid = none_left b.rights;
         holders = is.holders;
         covered = λ x. omega (arith, is.covered x, held_of-confirmed x b.rights);
       })
     where
-      every : (rs : List Right) → AllByRecursion (λ r. r.in_force ≡ true) (all_confirmed rs)
+      every : (rs : List Right) → AllByRecursion (λ r. is_in_force r ≡ true) (all_confirmed rs)
       every [] = tt
       every (r ∷ rs) = (refl, every rs)
-
-      none_left : (rs : List Right) → AllByRecursion Unpaid (all_confirmed rs)
-      none_left [] = tt
-      none_left (r ∷ rs) = (λ e. absurd (both_ways true e refl), none_left rs)
 
   sound-strike : (book first lines : ℕ) → Sound m (strike b book first lines).after
   sound-strike book first lines =
       by_outcome (λ o. Sound m o.after) (award_check b book first lines) b _ _ (λ e. is)
       (λ h. record {
         law = is.law;
-        small = all_kept_by (λ r. r.in_force) (λ r. r.line.power ≤ 1000000) b.rights is.small;
-        rising = rising_kept (λ r. r.in_force) 0 b.rights b.next is.rising;
+        small = all_kept_by is_in_force (λ r. r.line.power ≤ 1000000) b.rights is.small;
+        rising = rising_kept is_in_force 0 b.rights b.next is.rising;
         fits = is.fits-in_force;
-        fits-in_force = rw (kept-all (λ r. r.in_force) (in_force b.rights) (kept_by_passes (λ r. r.in_force) b.rights)) is.fits-in_force;
-        settled = λ _. kept_by_passes (λ r. r.in_force) b.rights;
-        unpaid = all_kept_by (λ r. r.in_force) Unpaid b.rights is.unpaid;
+        fits-in_force = rw (kept-all is_in_force (in_force b.rights) (kept_by_passes is_in_force b.rights)) is.fits-in_force;
+        settled = λ _. kept_by_passes is_in_force b.rights;
         holders = is.holders;
-        covered = λ x. omega (arith, is.covered x, total-kept_le (λ r. cond (eqb r.line.holder x) (held r) 0) (λ r. r.in_force) b.rights);
+        covered = λ x. omega (arith, is.covered x, total-kept_le (λ r. cond (eqb r.line.holder x) (held r) 0) is_in_force b.rights);
       })
 
   sound-pay : (s amount : ℕ) → Sound m (pay b s amount).after
@@ -211,8 +197,7 @@ module _ (m : Market) (b : State) (is : Sound m b) where
             rising = rising_paid s amount 0 b.rights b.next is.rising;
             fits = fits-same m b.rights (paid_on s amount b.rights) (λ month limit. load-paid m month limit s amount b.rights) is.fits;
             fits-in_force = fits-same m (in_force b.rights) (in_force (paid_on s amount b.rights)) (λ month limit. load-in_force-paid m month limit s amount b.rights) is.fits-in_force;
-            settled = λ e. all_paid (λ r. r.in_force ≡ true) s amount (λ r k. k) b.rights (is.settled e);
-            unpaid = all-paid_at Unpaid s amount b.rights r e (λ off. absurd (both_ways r.in_force off live)) is.unpaid;
+            settled = λ e. all_paid (λ r. is_in_force r ≡ true) s amount (λ r k. in_force-paying r amount ∙ k) b.rights (is.settled e);
             holders = is.holders;
             covered = λ x. omega (arith, is.covered x, held_of-paid x s amount b.rights r e);
           })
@@ -231,15 +216,14 @@ module _ (m : Market) (b : State) (is : Sound m b) where
           by_outcome (λ o. Sound m o.after) (annul_check m b r then capacity_check m (without s b.rights)) b _ _ (λ e. is)
           (λ h.
           let p = then_none (annul_check m b r) _ h in
-          let all = all_without (λ r. r.in_force ≡ true) s b.rights (is.settled (none_open m b r p.0)) in
+          let all = all_without (λ r. is_in_force r ≡ true) s b.rights (is.settled (none_open m b r p.0)) in
           record {
             law = is.law;
             small = all_without (λ r. r.line.power ≤ 1000000) s b.rights is.small;
             rising = rising_without s 0 b.rights b.next is.rising;
             fits = fits_from_check m (without s b.rights) p.1;
-            fits-in_force = rw (kept-all (λ r. r.in_force) (without s b.rights) all) (fits_from_check m (without s b.rights) p.1);
+            fits-in_force = rw (kept-all is_in_force (without s b.rights) all) (fits_from_check m (without s b.rights) p.1);
             settled = λ _. all;
-            unpaid = all_without Unpaid s b.rights is.unpaid;
             holders = simp length-set is.holders;
             covered = λ x.
                 rw (balance-set b.balances r.line.holder x (balance b r.line.holder - taking r) (λ l. let z = get_or_past b.balances r.line.holder 0 l in omega arith))
@@ -255,7 +239,6 @@ module _ (m : Market) (b : State) (is : Sound m b) where
     fits = is.fits;
     fits-in_force = is.fits-in_force;
     settled = is.settled;
-    unpaid = is.unpaid;
     holders = simp length-set is.holders;
     covered = λ y.
         rw (balance-set b.balances x y v h)
@@ -280,7 +263,7 @@ module _ (m : Market) (b : State) (is : Sound m b) where
   sound-set_day : (d : ℕ) → Sound m (set_day b d).after
   sound-set_day d =
       by_outcome (λ o. Sound m o.after) (day_check b d) b _ _ (λ e. is)
-      (λ h. record { law = is.law; small = is.small; rising = is.rising; fits = is.fits; fits-in_force = is.fits-in_force; settled = is.settled; unpaid = is.unpaid; holders = is.holders; covered = is.covered })
+      (λ h. record { law = is.law; small = is.small; rising = is.rising; fits = is.fits; fits-in_force = is.fits-in_force; settled = is.settled; holders = is.holders; covered = is.covered })
 
 pub sound-act : (m : Market) (b : State) → Sound m b → (c : Call) → Sound m (act m b c).after
 sound-act m b is (Propose ws) = sound-propose m b is ws

@@ -1,7 +1,7 @@
 -- The load of the rights before a place, right after right.
 use Rattle.std.proofs.Common.{◌≡◌, ℕ, ◌+◌, ◌*◌, ◌<◌, ◌≤◌, true, false, List, length, get_or, drop, ℤ, pos, ◌+ℤ◌, ◌-ℤ◌, nat_abs, ◌≤ℤ◌, ◌<ℤ◌, Some, None, Option, sym, ap, ◌∙◌, arith, w64, SFits}
 use lib.Signed.{lt_z}
-use Rattle.std.proofs.lemmas.List.{at_drop_more, at_drop_all}
+use Rattle.std.proofs.lemmas.List.{at_drop_more}
 use Rattle.std.proofs.lemmas.Int.{ints}
 use Rattle.std.proofs.lemmas.Bool.{cond-true}
 use Rattle.terms.specs.declared.refusal.Refusal.{Refusal}
@@ -29,12 +29,6 @@ summed_more m month limit rs i d s x inside few so h near =
       omega (arith, ints, so.1, near),
       (omega (arith, ints, so.0, step, h), (omega (arith, ints, so.1, near), omega (arith, ints, so.1, near))),
     )
-
--- no right is left
-pub summed_all : (m : Market) (month limit : ℕ) (rs : List Right) (i : ℕ) (s : ℤ) → length rs ≤ i → Summed m month limit rs i s → s ≡ load m month limit rs
-summed_all m month limit rs i s all so =
-    let last : load m month limit (drop i rs) ≡ pos 0 = at_drop_all (load m month limit) rs i all in
-    omega (arith, ints, so.0, last)
 
 -- whether a load passes what its limit bears
 module _ (m : Market) (rs : List Right) (month limit : ℕ) (l b : ℤ) (its : l ≡ load m month limit rs) (bears : b ≡ bound m month limit) where

@@ -10,9 +10,6 @@ use Rattle.book.specs.Views.{rights}
 pub length-rights : (t : Rights) → length (rights t) ≡ t.count
 length-rights t = length-take-le t.count t.rows (omega (arith, t.full, t.counted))
 
-pub few-rights : (t : Rights) → length (rights t) ≤ 96
-few-rights t = omega (arith, length-rights t, t.counted)
-
 module _ (rows : List Right) (n : ℕ) (full : length rows ≡ 96) (behind : drop n rows ≡ replicate (96 - n) empty) where
   drop-next : drop (n + 1) rows ≡ replicate (96 - n - 1) empty
   drop-next = sym (drop-drop 1 n rows) ∙ ap (drop 1) behind ∙ drop-replicate 1 (96 - n) empty

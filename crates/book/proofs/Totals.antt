@@ -1,11 +1,12 @@
 -- Sums over rights, after each event, and balances.
-use Rattle.std.proofs.Common.{◌≡◌, ℕ, suc, ◌+◌, ◌-◌, ◌<◌, ◌≤◌, Bool, true, false, cond, not, ◌||◌, eqb, ltb, List, [], ◌∷◌, ◌++◌, length, get_or, set, Some, None, filter, Option, sym, refl, ap, ◌∙◌, inl, inr, arith}
+use Rattle.std.proofs.Common.{◌≡◌, ℕ, suc, ◌+◌, ◌≤◌, Bool, true, false, cond, eqb, List, [], ◌∷◌, ◌++◌, length, get_or, set, Some, None, filter, Option, sym, refl, ap, ◌∙◌, inl, inr, arith}
 use Rattle.std.proofs.lemmas.List.{get_or-set_same, get_or-set_other, set_past, get_or_past}
-use Rattle.std.proofs.lemmas.Bool.{cond_both, cond-true, cond-false, cases_eq, cases_lt, eq-eqb, ne_eqb, eqb-true, ltb-true, lt-ltb}
+use Rattle.std.proofs.lemmas.Bool.{cond_both, cond-true, cond-false, cases_eq, cases_lt, eq-eqb, ne_eqb, eqb-true}
 use Rattle.std.specs.List.{AllByRecursion}
 use Rattle.submission.specs.declared.line.Line.{Line}
 use Rattle.book.specs.declared.right.Right.{Right}
 use Rattle.book.specs.Rights.{total, guarantee, held, held_of, asked_of, right_of, numbered, confirmed, all_confirmed, paying, paid_on, without}
+use Rattle.book.proofs.Standings.{held-confirmed, held-paying}
 
 pub total-append : {X : Type 0} (f : X → ℕ) (xs ys : List X) → total f (xs ++ ys) ≡ total f xs + total f ys
 total-append f [] ys = omega arith
@@ -57,21 +58,6 @@ all-paid_at P s n (y ∷ rs) r h p all =
 cond_mono : (t : Bool) (a b : ℕ) → a ≤ b → cond t a 0 ≤ cond t b 0
 cond_mono true a b h = h
 cond_mono false a b h = omega arith
-
-held-in_force : (t : Bool) (d g : ℕ) → cond (ltb 0 d) g 0 ≤ cond (not t || ltb 0 (cond t d 0)) g 0
-held-in_force true d g = omega arith
-held-in_force false d g = cond_both (ltb 0 d) g 0 (λ x. x ≤ g) (λ _. omega arith) (λ _. omega arith)
-
-held-less : (t : Bool) (d e g : ℕ) → d ≤ e → cond (not t || ltb 0 (cond t d 0)) g 0 ≤ cond (not t || ltb 0 (cond t e 0)) g 0
-held-less true d e g h =
-    cond_both (ltb 0 d) g 0 (λ x. x ≤ cond (ltb 0 e) g 0) (λ k. let p = ltb-true 0 d k in let q : 0 < e = omega arith in omega (arith, cond-true (ltb 0 e) g 0 (lt-ltb 0 e q))) (λ _. omega arith)
-held-less false d e g h = omega arith
-
-pub held-confirmed : (r : Right) → held (confirmed r) ≤ held r
-held-confirmed r = held-in_force r.in_force (r.line.charge - r.paid) (guarantee r.line)
-
-pub held-paying : (r : Right) (n : ℕ) → held (paying r n) ≤ held r
-held-paying r n = held-less r.in_force (r.line.charge - (r.paid + n)) (r.line.charge - r.paid) (guarantee r.line) (omega arith)
 
 pub held_of-confirmed : (x : ℕ) (rs : List Right) → held_of x (all_confirmed rs) ≤ held_of x rs
 held_of-confirmed x [] = omega arith

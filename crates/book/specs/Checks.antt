@@ -10,7 +10,7 @@ use Rattle.book.specs.Refusing.{◌then◌, refuse_if, first_of}
 use Rattle.book.specs.Market.{Market, limits}
 use Rattle.book.specs.Lines.{line_fault}
 use Rattle.book.specs.Forms.{form_check}
-use Rattle.book.specs.Rights.{guarantee, debt, asked_of}
+use Rattle.book.specs.Rights.{guarantee, is_in_force, paid_of, debt, asked_of}
 use Rattle.book.specs.Loads.{counts, factor, bound, load}
 use Rattle.book.specs.States.{State, balance, free_part}
 
@@ -83,14 +83,14 @@ award_check b book first lines = refuse_if (not (is_open b.number book first lin
 
 -- a right in force
 abbrev pub known_check : Right → Option Refusal
-known_check r = refuse_if (not r.in_force) Unknown
+known_check r = refuse_if (not (is_in_force r)) Unknown
 
 abbrev pub pay_check : ℕ → Right → Option Refusal
 pay_check amount r = known_check r then refuse_if (amount == 0 || nat_lt (debt r) amount) BadAmount
 
 -- whether a right is overdue on a day
 unfoldable pub overdue_on : Market → ℕ → Right → Bool
-overdue_on m day r = overdue m.calendar r.line.charge r.paid r.line.first r.line.last day
+overdue_on m day r = overdue m.calendar r.line.charge (paid_of r) r.line.first r.line.last day
 
 -- an annulment, before capacity
 abbrev pub annul_check : Market → State → Right → Option Refusal

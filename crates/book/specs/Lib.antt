@@ -19,3 +19,4 @@ pub mod Views
 pub mod Tables
 pub mod Results
 pub mod Covers
+pub mod Books

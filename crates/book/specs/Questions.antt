@@ -7,13 +7,13 @@ use Rattle.book.specs.declared.right.Right.{Right}
 use Rattle.book.specs.declared.answers.Statement.{Statement}
 use Rattle.book.specs.declared.answers.Account.{Account}
 use Rattle.book.specs.Market.{Market, limits}
-use Rattle.book.specs.Rights.{debt, held, right_of}
+use Rattle.book.specs.Rights.{is_in_force, paid_of, debt, held, right_of}
 use Rattle.book.specs.Loads.{load}
 use Rattle.book.specs.States.{State, balance, free_part}
 
 -- the charge counts once the right is in force
 abbrev pub statement_of : Right → Statement
-statement_of r = record { charge = cond r.in_force r.line.charge 0; paid = r.paid; debt = debt r; guarantee = held r }
+statement_of r = record { charge = cond (is_in_force r) r.line.charge 0; paid = paid_of r; debt = debt r; guarantee = held r }
 
 abbrev pub statement : State → ℕ → Result Statement Refusal
 statement b s = ok_or (option_map statement_of (right_of s b.rights)) Unknown

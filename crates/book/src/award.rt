@@ -5,7 +5,7 @@ use terms::Refusal;
 mod numbers;
 
 // The three numbers of an award: its book, its first serial and how many lines it has.
-#[derive(Clone, Copy)]
+#[derive(Clone, Copy, Debug, PartialEq, Eq)]
 pub struct AwardNumbers {
     pub book: u32,
     pub first: u32,

@@ -1,21 +1,16 @@
+use crate::basis::Basis;
 use crate::ledger::Ledger;
-use calendar::Calendar;
 use flows::{FactorSource, UseRule};
 
 mod annul;
 mod calls;
-mod capacity;
-mod factors;
 mod lines;
-mod loads;
 mod propose;
 mod questions;
 
-// A book over one source, one rule and one calendar, which stay fixed in it, with its plain tables.
+// A book: what it rests on, which stays fixed in it, and its plain tables.
 #[derive(Drop)]
 pub struct Book<S: FactorSource, R: UseRule> {
-    source: S,
-    rule: R,
-    calendar: Calendar,
+    basis: Basis<S, R>,
     ledger: Ledger,
 }

@@ -3,6 +3,7 @@
 
 mod answers;
 mod award;
+mod basis;
 mod book;
 mod ledger;
 mod lines;

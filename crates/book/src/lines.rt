@@ -3,29 +3,26 @@ ghost use Rattle.calendar.specs.Figures.{figures};
 ghost use Rattle.book.specs.Lines.{nodes_stand, months_stand, amounts_stand, line_stands, reaches_floor, line_fault};
 ghost use Rattle.book.specs.Refusing.{told};
 
+use crate::marks::pair_of;
 use calendar::Calendar;
 use money::{MonthSpan, Transfer};
 use submission::Line;
-use terms::{HOLDERS, MONTHS, MOST_OFFER, MOST_POWER, Refusal};
+use terms::{HOLDERS, MOST_OFFER, MOST_POWER, Refusal};
+
+// A calendar and a line stay two: the first is the book's, the second the caller's, and each check reads both once.
 
 // Whether both nodes are there, in different areas.
 fn nodes_stand(calendar: &Calendar, line: &Line) -> bool
     ensures { result ≡ nodes_stand (figures calendar.now) line.now }
 {
-    let Ok(injection) = calendar.area(line.injection) else {
-        return false;
-    };
-    let Ok(withdrawal) = calendar.area(line.withdrawal) else {
-        return false;
-    };
-    injection.number() != withdrawal.number()
+    pair_of(calendar, line).is_some()
 }
 
 // Whether the months are months of the year, the first not after the last.
 fn months_stand(line: &Line) -> bool
     ensures { result ≡ months_stand line.now }
 {
-    1 <= line.first && line.first <= line.last && line.last <= MONTHS
+    MonthSpan::new(line.first, line.last).is_some()
 }
 
 // Whether power, offer and charge are in their ranges.
@@ -62,10 +59,7 @@ fn reaches_floor(calendar: &Calendar, line: &Line) -> bool
         power: line.power,
         months,
     };
-    match transfer.reached_by(calendar, line.offer) {
-        Ok(reached) => reached,
-        Err(_) => false,
-    }
+    transfer.reached_by(calendar, line.offer).unwrap_or(false)
 }
 
 // The fault of the line at a place by itself: its numbers, then its offer.

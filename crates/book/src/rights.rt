@@ -2,11 +2,14 @@ ghost use Rattle.std.specs.Prelude.{◌≡◌, ◌-◌, ◌≤◌, T, length, dr
 ghost use Rattle.book.specs.Rows.{empty, all_small};
 
 use crate::right::Right;
+use terms::ROWS;
 
 // The table of rights: 96 plain rows, of which the first so many hold rights in the order of their serials; the others are empty.
+// No Vec and no map: no call allocates, and a call that may refuse changes a copy of the whole table first. No `terms::Table` either:
+// the rows behind the count are empty ones, every row is small, and a row that is left closes up.
 #[derive(Clone, Copy)]
 pub struct Rights {
-    rows: [Right; 96],
+    rows: [Right; ROWS],
     count: usize,
     ghost full: { length rows ≡ 96 },
     ghost counted: { count ≤ 96 },

@@ -30,39 +30,11 @@ pub const NORTH: Line = Line {
     charge: 300,
 };
 
-// An answer as numbers: those of a refusal, or one above 100 with what the answer says.
-pub type Told = (u32, u64, u64, u64, u64);
-
-pub fn told(answer: Answer) -> Told {
-    match answer {
-        Answer::Awarded(award) => (
-            101,
-            u64::from(award.book),
-            u64::from(award.first),
-            u64::from(award.lines),
-            0,
-        ),
-        Answer::Confirmed => (102, 0, 0, 0, 0),
-        Answer::Struck => (103, 0, 0, 0, 0),
-        Answer::DebtLeft(debt) => (104, debt, 0, 0, 0),
-        Answer::Annulled(annulment) => (105, annulment.taking, annulment.write_off, 0, 0),
-        Answer::Balance(balance) => (106, balance, 0, 0, 0),
-        Answer::Day(day) => (107, u64::from(day), 0, 0, 0),
-        Answer::Refused(refusal) => {
-            let f = refusal.fields();
-            (
-                f.number,
-                f.place as u64,
-                u64::from(f.month),
-                u64::from(f.limit),
-                f.excess,
-            )
-        }
-    }
-}
+// What a desk answers to a call.
+pub type Told = Result<Answer, Refusal>;
 
 // A call with the answer that it should have.
-pub type Step<'a> = (Call<'a>, Answer);
+pub type Step<'a> = (Call<'a>, Told);
 
 // Puts the calls to a desk one after another, and compares its answers.
 pub fn check_steps<S: FactorSource, R: UseRule>(
@@ -71,7 +43,7 @@ pub fn check_steps<S: FactorSource, R: UseRule>(
     steps: &[Step<'_>],
 ) {
     for (call, answer) in steps {
-        assert_eq!(rt; told(desk.answer(*call)), told(*answer));
+        assert_eq!(rt; desk.answer(*call), *answer);
     }
 }
 
@@ -80,31 +52,17 @@ pub fn check_line<S: FactorSource, R: UseRule>(
     rt: &impl Abort,
     desk: &mut Desk<S, R>,
     line: Line,
-    answer: Answer,
+    answer: Told,
 ) -> Result<(), Fail> {
-    let words = one(line)?;
-    assert_eq!(rt; told(desk.answer(Call::Propose(&words))), told(answer));
+    let words = words::<10>(&[line])?;
+    assert_eq!(rt; desk.answer(Call::Propose(&words)), answer);
     Ok(())
 }
 
-// The words of one line.
-pub fn one(line: Line) -> Result<[u32; 10], Refusal> {
-    let mut words = [0; 10];
-    write(&[line], &mut words)?;
-    Ok(words)
-}
-
-// The words of two lines.
-pub fn two(first: Line, second: Line) -> Result<[u32; 18], Refusal> {
-    let mut words = [0; 18];
-    write(&[first, second], &mut words)?;
-    Ok(words)
-}
-
-// The words of sixteen lines that are alike.
-pub fn sixteen(line: Line) -> Result<[u32; 130], Refusal> {
-    let mut words = [0; 130];
-    write(&[line; 16], &mut words)?;
+// The words of some lines: eight each, and two more.
+pub fn words<const N: usize>(lines: &[Line]) -> Result<[u32; N], Refusal> {
+    let mut words = [0; N];
+    write(lines, &mut words)?;
     Ok(words)
 }
 
@@ -140,52 +98,70 @@ pub const fn set_day<'a>(day: u32) -> Call<'a> {
     Call::SetDay { day }
 }
 
-pub const fn awarded(book: u32, first: u32, lines: u32) -> Answer {
-    Answer::Awarded(award(book, first, lines))
+pub const CONFIRMED: Told = Ok(Answer::Confirmed);
+
+pub const STRUCK: Told = Ok(Answer::Struck);
+
+pub const fn awarded(book: u32, first: u32, lines: u32) -> Told {
+    Ok(Answer::Awarded(award(book, first, lines)))
 }
 
-pub const fn annulled(taking: u64, write_off: u64) -> Answer {
-    Answer::Annulled(Annulment { taking, write_off })
+pub const fn debt_left(debt: u64) -> Told {
+    Ok(Answer::DebtLeft(debt))
 }
 
-pub const fn passed(month: u32, limit: u32, excess: u64) -> Answer {
-    Answer::Refused(Refusal::LimitPassed {
+pub const fn annulled(taking: u64, write_off: u64) -> Told {
+    Ok(Answer::Annulled(Annulment { taking, write_off }))
+}
+
+pub const fn balance(balance: u64) -> Told {
+    Ok(Answer::Balance(balance))
+}
+
+pub const fn day(day: u32) -> Told {
+    Ok(Answer::Day(day))
+}
+
+pub const fn passed(month: u32, limit: u32, excess: u64) -> Told {
+    Err(Refusal::LimitPassed {
         month,
         limit,
         excess,
     })
 }
 
-pub const UNKNOWN: Answer = Answer::Refused(Refusal::Unknown);
-
-pub const BAD_AMOUNT: Answer = Answer::Refused(Refusal::BadAmount);
-
-pub const NO_AWARD: Answer = Answer::Refused(Refusal::NoSuchAward);
-
-pub const AWARD_OPEN: Answer = Answer::Refused(Refusal::AwardOpen);
-
-pub const NO_ROOM: Answer = Answer::Refused(Refusal::NoRoom);
-
-pub const NOT_OVERDUE: Answer = Answer::Refused(Refusal::NotOverdue);
-
-pub const DAY_PAST: Answer = Answer::Refused(Refusal::DayPast);
-
-// A statement as numbers: charge, paid, debt and guarantee; or 0 and the number of the refusal.
-pub fn stated(statement: Result<Statement, Refusal>) -> (u64, u64, u64, u64, u32) {
-    match statement {
-        Ok(s) => (s.charge, s.paid, s.debt, s.guarantee, 0),
-        Err(refusal) => (0, 0, 0, 0, refusal.fields().number),
-    }
+pub const fn uncovered(place: usize) -> Told {
+    Err(Refusal::Uncovered { place })
 }
 
-// A balance and its free part; or 0 and the number of the refusal.
-pub fn counted(account: Result<Account, Refusal>) -> (u64, u64, u32) {
-    match account {
-        Ok(a) => (a.balance, a.free, 0),
-        Err(refusal) => (0, 0, refusal.fields().number),
-    }
+pub const UNKNOWN: Told = Err(Refusal::Unknown);
+
+pub const BAD_AMOUNT: Told = Err(Refusal::BadAmount);
+
+pub const NO_AWARD: Told = Err(Refusal::NoSuchAward);
+
+pub const AWARD_OPEN: Told = Err(Refusal::AwardOpen);
+
+pub const NO_ROOM: Told = Err(Refusal::NoRoom);
+
+pub const NOT_OVERDUE: Told = Err(Refusal::NotOverdue);
+
+pub const DAY_PAST: Told = Err(Refusal::DayPast);
+
+pub const fn statement(
+    charge: u64,
+    paid: u64,
+    debt: u64,
+    guarantee: u64,
+) -> Result<Statement, Refusal> {
+    Ok(Statement {
+        charge,
+        paid,
+        debt,
+        guarantee,
+    })
 }
 
-pub const fn uncovered(place: usize) -> Answer {
-    Answer::Refused(Refusal::Uncovered { place })
+pub const fn account(balance: u64, free: u64) -> Result<Account, Refusal> {
+    Ok(Account { balance, free })
 }

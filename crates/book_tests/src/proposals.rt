@@ -7,18 +7,18 @@ use std::test::Fail;
 use submission::Line;
 use terms::Refusal;
 
-const BELOW_FLOOR: Answer = Answer::Refused(Refusal::BelowFloor { place: 1 });
+const BELOW_FLOOR: Told = Err(Refusal::BelowFloor { place: 1 });
 
-const fn bad_line(place: usize) -> Answer {
-    Answer::Refused(Refusal::BadLine { place })
+const fn bad_line(place: usize) -> Told {
+    Err(Refusal::BadLine { place })
 }
 
-const fn broken(place: usize) -> Answer {
-    Answer::Refused(Refusal::Form { place })
+const fn broken(place: usize) -> Told {
+    Err(Refusal::Form { place })
 }
 
-const fn no_factor(place: usize, month: u32, limit: u32) -> Answer {
-    Answer::Refused(Refusal::NoFactor {
+const fn no_factor(place: usize, month: u32, limit: u32) -> Told {
+    Err(Refusal::NoFactor {
         place,
         month,
         limit,
@@ -94,16 +94,16 @@ fn forms_and_covers<'a, S: FactorSource, R: UseRule>(
         &[
             (Call::Propose(short), broken(2)),
             (Call::Propose(south), uncovered(1)),
-            (deposit(0, 29_759_999), Answer::Balance(29_759_999)),
+            (deposit(0, 29_759_999), balance(29_759_999)),
             (Call::Propose(south), uncovered(1)),
             (Call::Propose(halves), uncovered(2)),
             (Call::Propose(second_bad), uncovered(1)),
-            (deposit(0, 1), Answer::Balance(29_760_000)),
+            (deposit(0, 1), balance(29_760_000)),
             (Call::Propose(second_bad), bad_line(2)),
             (Call::Propose(halves), awarded(1, 1, 2)),
             (Call::Propose(second_bad), AWARD_OPEN),
             (Call::Propose(short), broken(2)),
-            (strike(1, 1, 2), Answer::Struck),
+            (strike(1, 1, 2), STRUCK),
             (Call::Propose(south), awarded(1, 3, 1)),
         ],
     );
@@ -115,7 +115,7 @@ fn forms_and_covers<'a, S: FactorSource, R: UseRule>(
 fn lines(rt: HostRuntime) -> Result<(), Fail> {
     let mut calendar = calendar();
     calendar.add_node(1)?;
-    let mut desk = Desk::new(1, table(rt.alloc())?, FirmRule {}, calendar);
+    let mut desk = Desk::new(1, table(rt.alloc())?, FirmRule, calendar);
     let seen = bad_lines(&rt, &mut desk);
     let _ = desk.close();
     seen
@@ -129,10 +129,10 @@ fn forms(rt: HostRuntime) -> Result<(), Fail> {
         charge: 0,
         ..SOUTH
     };
-    let south = one(SOUTH)?;
-    let halves = two(half, half)?;
-    let second_bad = two(SOUTH, Line { power: 0, ..SOUTH })?;
-    let mut desk = Desk::new(1, table(rt.alloc())?, FirmRule {}, calendar());
+    let south = words::<10>(&[SOUTH])?;
+    let halves = words::<18>(&[half, half])?;
+    let second_bad = words::<18>(&[SOUTH, Line { power: 0, ..SOUTH }])?;
+    let mut desk = Desk::new(1, table(rt.alloc())?, FirmRule, calendar());
     let seen = forms_and_covers(&rt, &mut desk, &south, &OPENING, &halves, &second_bad);
     let _ = desk.close();
     seen
@@ -182,15 +182,15 @@ fn missing<S: FactorSource, R: UseRule>(
 // Of a limit without marks no factor is asked.
 #[test]
 fn factors(rt: HostRuntime) -> Result<(), Fail> {
-    let source = PairList::from_rows([row(1, 1), row(2, 2)].to_vec(rt.alloc())?);
-    let mut desk = Desk::new(1, source, FirmRule {}, calendar());
+    let source = PairList::from([row(1, 1), row(2, 2)].to_vec(rt.alloc())?);
+    let mut desk = Desk::new(1, source, FirmRule, calendar());
     let seen = missing(&rt, &mut desk);
     let _ = desk.close();
     seen?;
     let mut calendar = calendar();
     calendar.set_relation(2, 0)?;
-    let source = PairList::from_rows([row(1, 1), row(2, 2)].to_vec(rt.alloc())?);
-    let mut desk = Desk::new(1, source, FirmRule {}, calendar);
+    let source = PairList::from([row(1, 1), row(2, 2)].to_vec(rt.alloc())?);
+    let mut desk = Desk::new(1, source, FirmRule, calendar);
     let seen = check_line(&rt, &mut desk, TWO_MONTHS, no_factor(1, 2, 1));
     let _ = desk.close();
     seen
@@ -216,20 +216,20 @@ fn rows<'a, S: FactorSource, R: UseRule>(
         desk,
         &[
             (Call::Propose(many), awarded(1, 1, 16)),
-            (confirm(1, 1, 16), Answer::Confirmed),
+            (confirm(1, 1, 16), CONFIRMED),
             (Call::Propose(more), passed(1, 2, 16_000_000)),
             (Call::Propose(many), awarded(1, 17, 16)),
-            (confirm(1, 17, 16), Answer::Confirmed),
+            (confirm(1, 17, 16), CONFIRMED),
             (Call::Propose(many), awarded(1, 33, 16)),
-            (confirm(1, 33, 16), Answer::Confirmed),
+            (confirm(1, 33, 16), CONFIRMED),
             (Call::Propose(many), awarded(1, 49, 16)),
-            (confirm(1, 49, 16), Answer::Confirmed),
+            (confirm(1, 49, 16), CONFIRMED),
             (Call::Propose(many), awarded(1, 65, 16)),
-            (confirm(1, 65, 16), Answer::Confirmed),
+            (confirm(1, 65, 16), CONFIRMED),
             (Call::Propose(many), awarded(1, 81, 16)),
-            (strike(1, 81, 16), Answer::Struck),
+            (strike(1, 81, 16), STRUCK),
             (Call::Propose(many), awarded(1, 97, 16)),
-            (confirm(1, 97, 16), Answer::Confirmed),
+            (confirm(1, 97, 16), CONFIRMED),
             (Call::Propose(more), NO_ROOM),
         ],
     );
@@ -243,29 +243,26 @@ fn serials<S: FactorSource, R: UseRule>(
     many: &[u32],
 ) -> Result<(), Fail> {
     for _ in 0..62_500 {
-        let Answer::Awarded(award) = desk.answer(Call::Propose(many)) else {
+        let Ok(Answer::Awarded(award)) = desk.answer(Call::Propose(many)) else {
             return Err(Fail::new("the proposal is refused"));
         };
-        assert_eq!(rt;
-            told(desk.answer(Call::Strike(award))),
-            told(Answer::Struck)
-        );
+        assert_eq!(rt; desk.answer(Call::Strike(award)), STRUCK);
     }
     check_line(rt, desk, LEAST, NO_ROOM)
 }
 
 #[test]
 fn room(rt: HostRuntime) -> Result<(), Fail> {
-    let many = sixteen(LEAST)?;
-    let more = one(Line {
+    let many = words::<130>(&[LEAST; 16])?;
+    let more = words::<10>(&[Line {
         power: 200_000,
         ..LEAST
-    })?;
-    let mut desk = Desk::new(1, table(rt.alloc())?, FirmRule {}, calendar());
+    }])?;
+    let mut desk = Desk::new(1, table(rt.alloc())?, FirmRule, calendar());
     let seen = rows(&rt, &mut desk, &many, &more);
     let _ = desk.close();
     seen?;
-    let mut desk = Desk::new(1, table(rt.alloc())?, FirmRule {}, calendar());
+    let mut desk = Desk::new(1, table(rt.alloc())?, FirmRule, calendar());
     let seen = serials(&rt, &mut desk, &many);
     let _ = desk.close();
     seen

@@ -1,6 +1,6 @@
 use crate::asking::*;
 use demonstration::{calendar, table};
-use desk::{Answer, Call, Desk};
+use desk::{Call, Desk};
 use flows::{FactorSource, FirmRule, ObligationRule, UseRule};
 use std::process::Abort;
 use std::test::Fail;
@@ -18,14 +18,14 @@ fn both_ways<S: FactorSource, R: UseRule>(
     rt: &impl Abort,
     desk: &mut Desk<S, R>,
     words: &[u32],
-    answer: Answer,
+    answer: Told,
 ) -> Result<(), Fail> {
     check_steps(
         rt,
         desk,
         &[
-            (deposit(0, 66_960_000), Answer::Balance(66_960_000)),
-            (deposit(1, 30), Answer::Balance(30)),
+            (deposit(0, 66_960_000), balance(66_960_000)),
+            (deposit(1, 30), balance(30)),
             (Call::Propose(words), answer),
         ],
     );
@@ -47,10 +47,10 @@ fn obligations<S: FactorSource, R: UseRule>(
         desk,
         &[
             (Call::Propose(words), AWARD_OPEN),
-            (confirm(1, 1, 2), Answer::Confirmed),
-            (set_day(11), Answer::Day(11)),
+            (confirm(1, 1, 2), CONFIRMED),
+            (set_day(11), day(11)),
             (annul(2), passed(1, 1, 150_000_000_000)),
-            (pay(2, 300), Answer::DebtLeft(0)),
+            (pay(2, 300), debt_left(0)),
             (annul(2), NOT_OVERDUE),
         ],
     );
@@ -60,12 +60,12 @@ fn obligations<S: FactorSource, R: UseRule>(
 // A firm right northward takes nothing off the load southward; one that has to be used does.
 #[test]
 fn netting(rt: HostRuntime) -> Result<(), Fail> {
-    let words = two(LARGE, NORTH)?;
-    let mut firm = Desk::new(1, table(rt.alloc())?, FirmRule {}, calendar());
+    let words = words::<18>(&[LARGE, NORTH])?;
+    let mut firm = Desk::new(1, table(rt.alloc())?, FirmRule, calendar());
     let seen = both_ways(&rt, &mut firm, &words, passed(1, 1, 150_000_000_000));
     let _ = firm.close();
     seen?;
-    let mut obligation = Desk::new(1, table(rt.alloc())?, ObligationRule {}, calendar());
+    let mut obligation = Desk::new(1, table(rt.alloc())?, ObligationRule, calendar());
     let seen = obligations(&rt, &mut obligation, &words);
     let _ = obligation.close();
     seen

@@ -1,6 +1,4 @@
 pub mod Shown
-pub mod Counts
-pub mod Flows
-pub mod Marks
+pub mod Limits
 pub mod RowsSet
 pub mod Ranged

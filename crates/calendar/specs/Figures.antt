@@ -1,5 +1,6 @@
 -- A calendar in plain numbers, and how it is read.
-use Rattle.std.specs.Prelude.{ℕ, zero, suc, ◌<◌, ◌≤◌, Bool, List, map, length, take, ℤ, pos, slice_index_or}
+use Rattle.std.specs.Prelude.{ℕ, zero, suc, ◌<◌, ◌≤◌, Bool, List, map, length, ℤ, pos, slice_index_or}
+use Rattle.terms.specs.Tables.{held}
 use Rattle.calendar.specs.Rows.{row_mark}
 use Rattle.calendar.specs.declared.kinds.LimitKind.{LimitKind}
 use Rattle.calendar.specs.declared.kinds.LimitKind.TheVariants.{Export}
@@ -43,19 +44,19 @@ limit_figures l =
       kind = l.kind;
       area = l.area.number;
       direction = l.direction;
-      values = map (λ v. v.kilowatts) l.values;
+      values = map (λ v. v.number) l.values;
       row = l.row.bits;
     }
 
 abbrev pub month_figures : Month → MonthFigures
-month_figures m = record { hours = m.hours.count; pay_day = m.pay_day.day }
+month_figures m = record { hours = m.hours.number; pay_day = m.pay_day.number }
 
 -- what a calendar says
 abbrev pub figures : Calendar → Figures
 figures c =
     record {
-      nodes = map node_figures (take c.node_count c.nodes);
-      limits = map limit_figures (take c.limit_count c.limits);
+      nodes = map node_figures (held c.nodes);
+      limits = map limit_figures (held c.limits);
       months = map month_figures c.months;
     }
 

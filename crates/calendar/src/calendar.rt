@@ -1,14 +1,12 @@
-ghost use Rattle.std.specs.Prelude.{◌≡◌, ◌≤◌, length};
-
 use crate::kinds::{Direction, LimitKind};
 use crate::parts::{Capacity, Hours, PayDay, Price, RelationRow};
-use terms::Area;
+use terms::{Area, Table};
 
 mod calls;
 mod doors;
 mod matrix;
 mod questions;
-mod writes;
+mod study;
 
 // A place of injection or withdrawal, with its price in each month.
 #[derive(Clone, Copy)]
@@ -27,22 +25,21 @@ struct Limit {
     row: RelationRow,
 }
 
-#[derive(Clone, Copy)]
+#[derive(Clone, Copy, Default)]
 struct Month {
     hours: Hours,
     pay_day: PayDay,
 }
 
 // The nodes, limits and months of a year. Every number in it is within its range by its type.
+// No Model: a calendar is copied, and a view that forgets what fills the rows beyond the counts has no inverse.
 #[derive(Clone, Copy)]
 pub struct Calendar {
-    nodes: [Node; 64],
-    node_count: usize,
-    limits: [Limit; 48],
-    limit_count: usize,
+    nodes: Table<Node, NODES>,
+    limits: Table<Limit, LIMITS>,
     months: [Month; 12],
-    ghost node_rows: { length nodes ≡ 64 },
-    ghost few_nodes: { node_count ≤ 64 },
-    ghost limit_rows: { length limits ≡ 48 },
-    ghost few_limits: { limit_count ≤ 48 },
 }
+
+const NODES: usize = terms::MOST_NODES as usize;
+
+const LIMITS: usize = terms::MOST_LIMITS as usize;

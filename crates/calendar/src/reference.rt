@@ -18,14 +18,11 @@ impl Reference {
         Pair::new(Area::new(self.injection)?, Area::new(self.withdrawal)?)
     }
 
-    // Whether it is of the pair of this number.
+    // Whether it is of the pair of this number, as the bits of a row are numbered.
     pub(crate) fn is_of(self, pair: u32) -> bool
         requires { IsPair self }
         ensures { result ≡ is_of self pair }
     {
-        match self.pair() {
-            Some(own) => own.number() == pair,
-            None => false,
-        }
+        self.pair().is_some_and(|own| own.number() == pair)
     }
 }

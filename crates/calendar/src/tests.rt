@@ -1,25 +1,20 @@
+use crate::LimitKind::{self, Export, Import, Wheeling};
 use crate::{Calendar, Reference};
 use std::test::Fail;
 use terms::Refusal;
-
-const EXPORT: u32 = 1;
-
-const IMPORT: u32 = 2;
-
-const WHEELING: u32 = 3;
 
 // A calendar with a node in area 1 and a wheeling limit of area 2.
 fn small() -> Result<Calendar, Refusal> {
     let mut calendar = Calendar::new();
     calendar.add_node(1)?;
-    calendar.add_limit(WHEELING, 2, 1, [10_000_000; 12])?;
+    calendar.add_limit(Wheeling.into(), 2, 1, [10_000_000; 12])?;
     Ok(calendar)
 }
 
 // The mark of pair 1-3 at a single limit where a reference of that pair has this flow.
-fn mark_of(kind: u32, area: u32, flow: i32) -> Result<bool, Refusal> {
+fn mark_of(kind: LimitKind, area: u32, flow: i32) -> Result<bool, Refusal> {
     let mut calendar = Calendar::new();
-    calendar.add_limit(kind, area, 1, [0; 12])?;
+    calendar.add_limit(kind.into(), area, 1, [0; 12])?;
     let reference = Reference {
         injection: 1,
         withdrawal: 3,
@@ -102,10 +97,13 @@ fn a_full_calendar_refuses(rt: HostRuntime) {
     assert_eq!(rt; calendar.add_node(6), Err(Refusal::CalendarFull));
     assert_eq!(rt; calendar.add_node(7), Err(Refusal::CalendarValue));
     for number in 1..49 {
-        assert_eq!(rt; calendar.add_limit(EXPORT, 1, 2, [1; 12]), Ok(number));
+        assert_eq!(rt;
+            calendar.add_limit(Export.into(), 1, 2, [1; 12]),
+            Ok(number)
+        );
     }
     assert_eq!(rt;
-        calendar.add_limit(EXPORT, 1, 2, [1; 12]),
+        calendar.add_limit(Export.into(), 1, 2, [1; 12]),
         Err(Refusal::CalendarFull)
     );
 }
@@ -113,23 +111,23 @@ fn a_full_calendar_refuses(rt: HostRuntime) {
 #[test]
 fn flows_count_or_stray(rt: HostRuntime) {
     for (kind, area, flow, marked) in [
-        (WHEELING, 2, 99, false),
-        (WHEELING, 2, 100, true),
-        (WHEELING, 2, -100, false),
-        (WHEELING, 1, 1, true),
-        (WHEELING, 3, 1, true),
-        (EXPORT, 1, 1, true),
-        (EXPORT, 1, -1, false),
-        (EXPORT, 2, 99, false),
-        (IMPORT, 3, 1, true),
-        (IMPORT, 1, 99, false),
+        (Wheeling, 2, 99, false),
+        (Wheeling, 2, 100, true),
+        (Wheeling, 2, -100, false),
+        (Wheeling, 1, 1, true),
+        (Wheeling, 3, 1, true),
+        (Export, 1, 1, true),
+        (Export, 1, -1, false),
+        (Export, 2, 99, false),
+        (Import, 3, 1, true),
+        (Import, 1, 99, false),
     ] {
         assert_eq!(rt; mark_of(kind, area, flow), Ok(marked));
     }
     let stray = Refusal::Stray { place: 1, limit: 1 };
-    assert_eq!(rt; mark_of(EXPORT, 2, 100), Err(stray));
-    assert_eq!(rt; mark_of(EXPORT, 3, 100), Err(stray));
-    assert_eq!(rt; mark_of(IMPORT, 1, 100), Err(stray));
+    assert_eq!(rt; mark_of(Export, 2, 100), Err(stray));
+    assert_eq!(rt; mark_of(Export, 3, 100), Err(stray));
+    assert_eq!(rt; mark_of(Import, 1, 100), Err(stray));
 }
 
 // The rows of three limits after a build.
@@ -149,9 +147,9 @@ fn rows_built(
 #[test]
 fn a_second_build_clears_old_marks(rt: HostRuntime) -> Result<(), Fail> {
     let mut calendar = Calendar::new();
-    calendar.add_limit(EXPORT, 1, 1, [0; 12])?;
-    calendar.add_limit(WHEELING, 2, 1, [0; 12])?;
-    calendar.add_limit(IMPORT, 3, 1, [0; 12])?;
+    calendar.add_limit(Export.into(), 1, 1, [0; 12])?;
+    calendar.add_limit(Wheeling.into(), 2, 1, [0; 12])?;
+    calendar.add_limit(Import.into(), 3, 1, [0; 12])?;
     let one_three = Reference {
         injection: 1,
         withdrawal: 3,

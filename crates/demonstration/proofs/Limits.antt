@@ -1,47 +1,24 @@
 -- A limit added with all its marks.
-use Rattle.std.proofs.Common.{◌≡◌, ℕ, zero, suc, ◌+◌, ◌-◌, ◌<◌, ◌≤◌, true, List, [], ◌∷◌, ◌++◌, get_or, replicate, is_some, is_ok, Some, Ok, Err, Result, sym, refl, ap, ◌∙◌, subst, inl, inr, arith, lit≤, length-append}
-use Rattle.terms.specs.Ranges.{most_limits}
-use Rattle.terms.specs.declared.refusal.Refusal.{Refusal}
-use Rattle.calendar.specs.declared.calendar.Calendar.{Calendar}
+use Rattle.std.proofs.Common.{◌≡◌, ℕ, ◌+◌, ◌-◌, List, [], ◌∷◌, ◌++◌, replicate, Some, ap, ◌∙◌, arith}
 use Rattle.calendar.specs.declared.kinds.LimitKind.{LimitKind}
 use Rattle.calendar.specs.declared.kinds.Direction.{Direction}
-use Rattle.calendar.specs.Kinds.{kind_numbered, direction_numbered}
-use Rattle.calendar.specs.Values.{IsValue, IsRow}
-use Rattle.calendar.specs.Figures.{Figures, LimitFigures, figures, limit_count, HasLimit}
-use Rattle.calendar.specs.Calls.{changed, with_limit, with_row, rerowed, LimitFits, NumberedLimit, AddsLimit, SetsRelation}
+use Rattle.calendar.specs.declared.kinds.LimitKind.TheVariants.{Export, Import, Wheeling}
+use Rattle.calendar.specs.declared.kinds.Direction.TheVariants.{Southward, Northward}
+use Rattle.calendar.specs.Kinds.{kind_numbered, direction_numbered, number_of_kind, number_of_direction}
+use Rattle.calendar.specs.Figures.{Figures, LimitFigures, limit_count}
+use Rattle.calendar.specs.Calls.{changed, with_limit, with_row, rerowed, NumberedLimit}
 use Rattle.demonstration.specs.Calendars.{full_limit}
 use Rattle.demonstration.proofs.Lists.{at_last}
 
--- one value in every month fits where it fits once
-same-values : (n k value : ℕ) → IsValue value → IsValue (get_or (replicate n value) k 0)
-same-values zero k value h = lit≤ tt
-same-values (suc n) zero value h = h
-same-values (suc n) (suc k) value h = same-values n k value h
+-- a kind and a direction by their numbers
+pub kind_of_number : (k : LimitKind) (n : ℕ) → n ≡ number_of_kind k → kind_numbered n ≡ Some k
+kind_of_number Export n e = ap kind_numbered e
+kind_of_number Import n e = ap kind_numbered e
+kind_of_number Wheeling n e = ap kind_numbered e
 
-pub limit_fits : (kind direction value : ℕ) → is_some (kind_numbered kind) ≡ true → is_some (direction_numbered direction) ≡ true → IsValue value → LimitFits kind 1 direction (replicate 12 value)
-limit_fits kind direction value k d v = (k, (lit≤ tt, lit≤ tt), d, λ i. same-values 12 i value v)
-
--- a limit that fits is added where there is room
-pub added_ok : (before after : Calendar) (kind direction value : ℕ) (r : Result ℕ Refusal) → LimitFits kind 1 direction (replicate 12 value)
-    → limit_count (figures before) < most_limits → AddsLimit before kind 1 direction (replicate 12 value) r after → is_ok r ≡ true
-added_ok before after kind direction value (Ok n) fits room b = refl
-added_ok before after kind direction value (Err e) fits room b =
-    let z : ⊥ = elim b.0 [ inl p ↦ p.1 fits | inr q ↦ q.2 room ] in
-    elim z [ ]
-
--- the last limit is there
-pub has_last : (f g : Figures) (l : LimitFigures) (limit : ℕ) → limit ≡ limit_count f + 1 → g ≡ with_limit f l → HasLimit g limit
-has_last f g l limit e p =
-    let H : Figures → Type 0 = λ h. HasLimit h limit in
-    let from : 1 ≤ limit = omega arith in
-    let to : limit ≤ limit_count (with_limit f l) = omega (arith, length-append f.limits (l ∷ [])) in
-    subst H (sym p) (from, to)
-
--- a row of a limit that is there is set
-pub row_ok : (before after : Calendar) (limit row : ℕ) (r : Result (Unit {0}) Refusal) → HasLimit (figures before) limit → IsRow row
-    → SetsRelation before limit row r after → is_ok r ≡ true
-row_ok before after limit row (Ok u) has fits b = refl
-row_ok before after limit row (Err e) has fits b = let z : ⊥ = b.0 (has, fits) in elim z [ ]
+pub direction_of_number : (d : Direction) (n : ℕ) → n ≡ number_of_direction d → direction_numbered n ≡ Some d
+direction_of_number Southward n e = ap direction_numbered e
+direction_of_number Northward n e = ap direction_numbered e
 
 -- the row of the limit that was added last
 row_last : (f : Figures) (l : LimitFigures) (limit row : ℕ) → limit ≡ limit_count f + 1 → with_row (with_limit f l) limit row ≡ with_limit f (rerowed row l)

@@ -7,10 +7,8 @@ use Rattle.calendar.specs.Figures.{figures}
 use Rattle.flows.specs.declared.node_table.NodeTable.{NodeTable}
 use Rattle.flows.specs.Nodes.{node_factor}
 use Rattle.flows.specs.Rules.{firm_worst}
-use Rattle.report.specs.declared.reply.Reply.{Reply}
-use Rattle.report.specs.declared.reply.Reply.TheVariants.{Accepted, Refused as TurnedDown}
-use Rattle.report.specs.Inputs.{whole_words, Accepted as SubmissionBytes}
-use Rattle.report.specs.Readings.{RefusedBytes}
+use Rattle.report.specs.declared.outcome.Accepted.{Accepted}
+use Rattle.report.specs.Inputs.{whole_words, Accepted as SubmissionBytes, RefusedBytes}
 use Rattle.report.specs.Texts.{reply_line, Puts}
 use Rattle.book.specs.Market.{Market, market}
 use Rattle.book.specs.Calls.{Answer, propose}
@@ -24,19 +22,19 @@ abbrev pub firm_over : NodeTable → Calendar → Market
 firm_over t c = market (node_factor t.limits t.nodes (vec_items t.entries)) firm_worst (figures c)
 
 -- the answer of a book, by its number, that a reply reports
-abbrev pub reported : ℕ → Reply → Answer
-reported book (Accepted first lines) = Awarded book first lines
-reported book (TurnedDown e) = Refused e
+abbrev pub reported : ℕ → Result Accepted Refusal → Answer
+reported book (Ok award) = Awarded book award.first award.lines
+reported book (Err e) = Refused e
 
 -- the reply to the bytes of an input: that of firm book 1 to the proposal of their words, if they are a submission, else their broken form
-abbrev pub Replies : List ℕ → Reply → Type 0
+abbrev pub Replies : List ℕ → Result Accepted Refusal → Type 0
 Replies bs reply =
     (SubmissionBytes bs × (reported 1 reply ≡ (propose firm (after firm []) (whole_words bs)).answer))
-    ⊎ ((e : Refusal) × RefusedBytes bs e × (reply ≡ TurnedDown e))
+    ⊎ ((e : Refusal) × RefusedBytes bs e × (reply ≡ Err e))
 
 -- the line of the reply is put into a buffer that held `was` and now holds `is`; 521 bytes decide it, whatever follows them
 pub record LineOf (bs was is : List ℕ) (r : Result ℕ Refusal) : Type 0 where
-  pub reply : Reply
+  pub reply : Result Accepted Refusal
   pub replies : Replies bs reply
   pub decided : (rest : List ℕ) → 521 ≤ length bs → Replies (bs ++ rest) reply
   pub line : Puts (reply_line reply) was is r

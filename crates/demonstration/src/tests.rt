@@ -20,10 +20,10 @@ fn nodes_and_prices(rt: HostRuntime) -> Result<(), Fail> {
 fn limits_and_marks(rt: HostRuntime) -> Result<(), Fail> {
     let calendar = calendar();
     assert_eq!(rt; calendar.limit_count(), 2);
-    assert!(rt; matches!(calendar.limit_kind(1)?, LimitKind::Export));
-    assert!(rt; matches!(calendar.limit_kind(2)?, LimitKind::Import));
-    assert!(rt; matches!(calendar.limit_direction(1)?, Direction::Southward));
-    assert!(rt; matches!(calendar.limit_direction(2)?, Direction::Northward));
+    assert_eq!(rt; calendar.limit_kind(1)?, LimitKind::Export);
+    assert_eq!(rt; calendar.limit_kind(2)?, LimitKind::Import);
+    assert_eq!(rt; calendar.limit_direction(1)?, Direction::Southward);
+    assert_eq!(rt; calendar.limit_direction(2)?, Direction::Northward);
     for (limit, value) in [(1, 300_000), (2, 200_000)] {
         assert_eq!(rt; calendar.limit_area(limit)?.number(), 1);
         assert_eq!(rt; calendar.relation(limit)?, (1 << 30) - 1);

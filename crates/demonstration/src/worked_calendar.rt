@@ -1,23 +1,12 @@
-ghost use Rattle.std.specs.Prelude.{◌≡◌, ◌*◌, ◌<◌, ◌≤◌, true, is_some, Some};
+ghost use Rattle.std.specs.Prelude.{◌≡◌, ◌*◌, ◌<◌, ◌≤◌};
 ghost use Rattle.terms.specs.Ranges.{most_nodes, most_limits};
 ghost use Rattle.calendar.specs.Values.{IsArea, IsPrice, IsValue};
-ghost use Rattle.calendar.specs.Kinds.{kind_numbered, direction_numbered};
 ghost use Rattle.calendar.specs.Figures.{figures, node_count, limit_count};
 ghost use Rattle.calendar.specs.Calls.{with_node, with_limit};
-ghost use Rattle.calendar.specs.declared.kinds.LimitKind.{LimitKind};
-ghost use Rattle.calendar.specs.declared.kinds.Direction.{Direction};
 ghost use Rattle.demonstration.specs.Calendars.{priced_node, full_limit, months_alone, worked_calendar};
 
-use calendar::Calendar;
+use calendar::{Calendar, Direction, LimitKind};
 use terms::MONTHS;
-
-const EXPORT: u32 = 1;
-
-const IMPORT: u32 = 2;
-
-const SOUTHWARD: u32 = 1;
-
-const NORTHWARD: u32 = 2;
 
 // A mark for each of the thirty pairs.
 const ALL_PAIRS: u32 = 0x3fff_ffff;
@@ -30,8 +19,18 @@ pub fn calendar() -> Calendar
     add_node(&mut calendar, 1, 50_000);
     add_node(&mut calendar, 2, 60_000);
     add_node(&mut calendar, 3, 60_000);
-    add_limit(&mut calendar, EXPORT, SOUTHWARD, 300_000);
-    add_limit(&mut calendar, IMPORT, NORTHWARD, 200_000);
+    add_limit(
+        &mut calendar,
+        LimitKind::Export,
+        Direction::Southward,
+        300_000,
+    );
+    add_limit(
+        &mut calendar,
+        LimitKind::Import,
+        Direction::Northward,
+        200_000,
+    );
     calendar
 }
 
@@ -69,13 +68,13 @@ fn add_node(calendar: &mut Calendar, area: u32, price: i64)
 }
 
 // Adds a limit of area 1, with this value in every month and all marks.
-fn add_limit(calendar: &mut Calendar, kind: u32, direction: u32, value: u32)
-    requires kind { is_some (kind_numbered kind) ≡ true }
-    requires direction { is_some (direction_numbered direction) ≡ true }
+fn add_limit(calendar: &mut Calendar, kind: LimitKind, direction: Direction, value: u32)
     requires value { IsValue value }
     requires room { limit_count (figures calendar.old) < most_limits }
-    ensures { (k : LimitKind) (d : Direction) → kind_numbered kind ≡ Some k → direction_numbered direction ≡ Some d → figures calendar.new ≡ with_limit (figures calendar.old) (full_limit k d value) }
+    ensures { figures calendar.new ≡ with_limit (figures calendar.old) (full_limit kind direction value) }
 {
-    let limit = calendar.add_limit(kind, 1, direction, [value; 12]).unwrap();
+    let limit = calendar
+        .add_limit(kind.into(), 1, direction.into(), [value; 12])
+        .unwrap();
     calendar.set_relation(limit, ALL_PAIRS).unwrap();
 }

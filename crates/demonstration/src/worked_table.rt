@@ -1,5 +1,5 @@
-ghost use Rattle.std.specs.Prelude.{◌≡◌, ◌++◌, is_ok, IfOk, if◌then◌else◌};
-ghost use Rattle.demonstration.specs.Tables.{month_entries, worked_entries};
+ghost use Rattle.std.specs.Prelude.{◌≡◌, IfOk};
+ghost use Rattle.demonstration.specs.Tables.{worked_entries};
 
 use flows::NodeTable;
 use std::alloc::{AllocError, Global};
@@ -16,16 +16,6 @@ const MONTH: [i32; 6] = [1_000_000, 0, 0, -1_000_000, 0, 0];
 pub fn table(heap: Global) -> Result<NodeTable, AllocError>
     ensures { IfOk result (λ t. (t.limits ≡ 2) × (t.nodes ≡ 3) × (t.entries.items ≡ worked_entries)) }
 {
-    let mut entries = Vec::new(heap);
-    for _month in 0..MONTHS {
-        push_month(&mut entries)?;
-    }
+    let entries = MONTH.repeat(heap, MONTHS as usize)?;
     Ok(NodeTable::from_entries(LIMITS, NODES, entries))
-}
-
-// Puts the entries of a month after the others.
-fn push_month(entries: &mut Vec<i32>) -> Result<(), AllocError>
-    ensures { entries.new.items ≡ (if is_ok result then entries.old.items ++ month_entries else entries.old.items) }
-{
-    entries.extend_from_slice(&MONTH)
 }

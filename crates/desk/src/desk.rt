@@ -5,9 +5,9 @@ ghost use Rattle.book.specs.Views.{view};
 
 use book::{Annulment, Award, AwardNumbers, Book};
 use flows::{FactorSource, UseRule};
-use terms::Refusal;
 
 mod calls;
+mod hand;
 
 pub use calls::run;
 
@@ -24,8 +24,8 @@ pub enum Call<'a> {
     SetDay { day: u32 },
 }
 
-// What a book answers.
-#[derive(Clone, Copy)]
+// What a book answers to a call that it grants.
+#[derive(Clone, Copy, Debug, PartialEq, Eq)]
 pub enum Answer {
     Awarded(AwardNumbers),
     Confirmed,
@@ -34,7 +34,6 @@ pub enum Answer {
     Annulled(Annulment),
     Balance(u64),
     Day(u32),
-    Refused(Refusal),
 }
 
 // A book and the award that is open in it, if one is.

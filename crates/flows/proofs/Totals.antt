@@ -1,52 +1,38 @@
 -- The load of what is left of a list, its faults, and how far a load can be from 0.
-use Rattle.std.proofs.Common.{◌≡◌, ℕ, suc, ◌+◌, ◌*◌, ◌<◌, ◌≤◌, true, leb, List, [], ◌∷◌, length, get_or, drop, ℤ, pos, negsuc, ◌+ℤ◌, ◌*ℤ◌, Some, None, Ok, Err, Option, sym, refl, ap, ◌∙◌, subst, inl, inr, arith, w64, SFits}
+use Rattle.std.proofs.Common.{◌≡◌, ℕ, suc, ◌+◌, ◌*◌, ◌<◌, ◌≤◌, List, [], ◌∷◌, length, get_or, drop, ℤ, pos, negsuc, ◌+ℤ◌, ◌*ℤ◌, Some, None, Ok, Err, Option, sym, refl, ap, ◌∙◌, subst, arith, w64, SFits}
 use Rattle.std.proofs.lemmas.List.{at_drop_more, at_drop_all}
+use Rattle.std.proofs.lemmas.Grind.{common_steps}
 use Rattle.std.proofs.lemmas.Nat.{mul-le}
 use Rattle.std.proofs.lemmas.Int.{ints}
-use Rattle.std.proofs.lemmas.Bool.{cond-true, cond-false, cond_both, cases_Bool, leb-true, le-leb}
 use Rattle.terms.specs.declared.refusal.Refusal.{Refusal}
-use Rattle.terms.specs.declared.refusal.Refusal.TheVariants.{BadLine}
 use Rattle.terms.specs.Ranges.{most_power}
 use Rattle.flows.specs.declared.load.RightAtLimit.{RightAtLimit}
 use Rattle.flows.specs.Factors.{Near, InFactorRange, Ranged, Meaning}
-use Rattle.flows.specs.Loads.{counts, factor_of, worst_at, worst_of, load, lacking, fault, ◌else◌, first_fault, judged, most_rights, no_load}
+use Rattle.flows.specs.Loads.{factor_of, worst_at, worst_of, load, fault, ◌else◌, first_fault, judged, most_rights}
 use Rattle.flows.proofs.Worst.{Lawful, Small}
 
-none_some : {X : Type 0} (e : Refusal) → ◌≡◌ {A = Option Refusal} (Some e) None → X
-none_some e h = let z : ◌≡◌ {A = ℕ} 0 1 = cc in absurd (omega arith)
-
 -- an answer tells whether there was a fault
-pub judged_ok : (o : Option Refusal) (v x : ℤ) → Ok x ≡ judged o v → (o ≡ None) × (x ≡ v)
-judged_ok (Some e) v x h = let z : ◌≡◌ {A = ℕ} 0 1 = cc in absurd (omega arith)
+judged_ok : (o : Option Refusal) (v x : ℤ) → Ok x ≡ judged o v → (o ≡ None) × (x ≡ v)
+judged_ok (Some e) v x h = cc
 judged_ok None v x h = (refl, cc)
 
-pub judged_err : (o : Option Refusal) (v : ℤ) (e : Refusal) → Err e ≡ judged o v → o ≡ Some e
+judged_err : (o : Option Refusal) (v : ℤ) (e : Refusal) → Err e ≡ judged o v → o ≡ Some e
 judged_err (Some d) v e h = cc
-judged_err None v e h = let z : ◌≡◌ {A = ℕ} 0 1 = cc in absurd (omega arith)
+judged_err None v e h = cc
 
 else_parts : (a b : Option Refusal) → (a else b) ≡ None → (a ≡ None) × (b ≡ None)
-else_parts (Some e) b h = none_some e h
+else_parts (Some e) b h = cc
 else_parts None b h = (refl, h)
 
 module _ (means : Meaning) (month limit : ℕ) where
-  pub power_small : (place : ℕ) (r : RightAtLimit) → fault means month limit place r ≡ None → r.power ≤ most_power
-  power_small place r h = elim (cases_Bool (leb r.power most_power)) [
-    | inl t ↦ leb-true r.power most_power t
-    | inr n ↦ none_some (BadLine place) (sym (cond-false (leb r.power most_power) _ (Some (BadLine place)) n) ∙ h)
-  ]
+  power_small : (place : ℕ) (r : RightAtLimit) → fault means month limit place r ≡ None → r.power ≤ most_power
+  power_small place r h = grind (arith, common_steps)
 
   pub all_small : (place : ℕ) (rights : List RightAtLimit) → first_fault means month limit place rights ≡ None → Small rights
   all_small place [] h = tt
   all_small place (r ∷ rs) h =
       let both = else_parts (fault means month limit place r) (first_fault means month limit (place + 1) rs) h in
       (power_small place r both.0, all_small (place + 1) rs both.1)
-
-  -- a right that counts and has a factor
-  pub judged-counted : (worst : ℕ → ℤ → ℤ) (place : ℕ) (r : RightAtLimit) (f w : ℤ) → r.power ≤ most_power → counts month r ≡ true → Some f ≡ factor_of means month limit r → w ≡ worst r.power f → Ok w ≡ judged (fault means month limit place r) (worst_of means worst month limit r)
-  judged-counted worst place r f w small t e h =
-      let sound : fault means month limit place r ≡ None = cond-true _ _ _ (le-leb r.power most_power small) ∙ cond-true _ _ _ t ∙ ap (lacking place month limit) (sym e) in
-      let value : worst_of means worst month limit r ≡ w = cond-true _ _ _ t ∙ ap (worst_at worst r.power) (sym e) ∙ sym h in
-      sym (ap (λ o. judged o (worst_of means worst month limit r)) sound ∙ ap Ok value)
 
 -- the sum of the rights before a place: with the load of the others it is the whole load; the first fault is among the others; it is near 0
 abbrev pub Summed : Meaning → (ℕ → ℤ → ℤ) → ℕ → ℕ → List RightAtLimit → ℕ → ℤ → Type 0
@@ -69,9 +55,9 @@ module _ (means : Meaning) (allowed : ℕ → ℕ → Type 0) (worst : ℕ → �
 
   -- the worst flow of one right is at most 2,000,000 × 1,000,000
   pub worst_of_near : (r : RightAtLimit) → r.power ≤ most_power → Near 2000000000000 (worst_of means worst month limit r)
-  worst_of_near r small = cond_both (counts month r) (worst_at worst r.power (factor_of means month limit r)) (pos 0) (Near 2000000000000)
-      (λ _. worst_near r.power (factor_of means month limit r) small (laws.ranged month limit r.injection r.withdrawal))
-      (λ _. (omega (arith, ints), omega (arith, ints)))
+  worst_of_near r small =
+      let n = worst_near r.power (factor_of means month limit r) small (laws.ranged month limit r.injection r.withdrawal) in
+      grind (arith, ints, common_steps)
 
   -- one right more
   pub turn : (rights : List RightAtLimit) (i : ℕ) (d : RightAtLimit) (s x : ℤ) → i < length rights → length rights ≤ most_rights → Summed means worst month limit rights i s → Ok x ≡ judged (fault means month limit (i + 1) (get_or rights i d)) (worst_of means worst month limit (get_or rights i d)) → SFits w64 (s +ℤ x) × Summed means worst month limit rights (i + 1) (s +ℤ x)
@@ -93,20 +79,13 @@ module _ (means : Meaning) (worst : ℕ → ℤ → ℤ) (month limit : ℕ) whe
   -- a right with a fault
   pub stopped : (rights : List RightAtLimit) (i : ℕ) (d : RightAtLimit) (s v : ℤ) (e : Refusal) → i < length rights → Summed means worst month limit rights i s → Err e ≡ judged (fault means month limit (i + 1) (get_or rights i d)) v → first_fault means month limit 1 rights ≡ Some e
   stopped rights i d s v e inside so h =
-      let r = get_or rights i d in
-      sym so.1
-      ∙ at_drop_more (first_fault means month limit (i + 1)) rights i d inside
-      ∙ ap (λ o. o else first_fault means month limit (i + 1 + 1) (drop (i + 1) rights)) (judged_err (fault means month limit (i + 1) r) v e h)
+      let first = at_drop_more (first_fault means month limit (i + 1)) rights i d inside in
+      let fault = judged_err (fault means month limit (i + 1) (get_or rights i d)) v e h in
+      grind arith
 
   -- no right is left
   pub ended : (rights : List RightAtLimit) (i : ℕ) (s : ℤ) → length rights ≤ i → Summed means worst month limit rights i s → (first_fault means month limit 1 rights ≡ None) × (s ≡ load means worst month limit rights)
   ended rights i s all so =
-      let last : load means worst month limit (drop i rights) ≡ pos 0 = at_drop_all (load means worst month limit) rights i all in (
-        sym so.1 ∙ at_drop_all (first_fault means month limit (i + 1)) rights i all,
-        omega (arith, ints, so.0, last),
-      )
-
--- the answer for a list that is not too long: its first fault, else its load
-pub answer : (means : Meaning) (month limit : ℕ) (rights : List RightAtLimit) (o : Option Refusal) (v w : ℤ) → length rights ≤ most_rights → first_fault means month limit 1 rights ≡ o → w ≡ v → judged o w ≡ judged (no_load means month limit rights) v
-answer means month limit rights o v w few e h =
-    ap (judged o) h ∙ ap (λ x. judged x v) (sym (cond-true _ _ _ (le-leb (length rights) most_rights few) ∙ e))
+      let last = at_drop_all (load means worst month limit) rights i all in
+      let none = at_drop_all (first_fault means month limit (i + 1)) rights i all in
+      grind (arith, ints)

@@ -1,13 +1,13 @@
 -- The worst case of a list of rights, from the laws of a source and a rule.
-use Rattle.std.proofs.Common.{◌≡◌, ℕ, ◌≤◌, Bool, true, false, cond, List, [], ◌∷◌, ℤ, pos, ◌+ℤ◌, ◌*ℤ◌, ◌≤ℤ◌, ◌<ℤ◌, Some, None, MatchBool, Option, sym, refl, ap, ◌∙◌, arith}
+use Rattle.std.proofs.Common.{◌≡◌, ℕ, ◌≤◌, Bool, true, false, cond, List, [], ◌∷◌, ℤ, pos, ◌*ℤ◌, ◌≤ℤ◌, Some, None, Option, sym, refl, arith}
 use lib.Signed.{≤ℤ_refl}
 use Rattle.std.proofs.lemmas.Int.{ints}
 use Rattle.std.specs.List.{AllByRecursion}
 use Rattle.terms.specs.Ranges.{most_power}
 use Rattle.flows.specs.declared.load.RightAtLimit.{RightAtLimit}
 use Rattle.flows.specs.Factors.{InFactorRange, Ranged, Meaning}
-use Rattle.flows.specs.Loads.{counts, factor_of, worst_at, worst_of, load}
-use Rattle.flows.specs.Choices.{Choice, carried, flow, Within, Passable, WorstCase}
+use Rattle.flows.specs.Loads.{counts, factor_of, worst_at, load}
+use Rattle.flows.specs.Choices.{Choice, carried, flow, WorstCase}
 
 -- what the laws say of a source's meaning and a rule's uses
 pub record Lawful (means : Meaning) (allowed : ℕ → ℕ → Type 0) (worst : ℕ → ℤ → ℤ) : Type 0 where
@@ -50,8 +50,7 @@ module _ (means : Meaning) (allowed : ℕ → ℕ → Type 0) (worst : ℕ → �
       let rest = flow_reached rs small.1 in (
         one.0 ∷ rest.0,
         (one.1, rest.1),
-        ap (λ z. cond (counts month r) z (pos 0) +ℤ flow means month limit rs rest.0) one.2
-            ∙ ap (λ z. worst_of means worst month limit r +ℤ z) rest.2,
+        (cc (one.2, rest.2)),
       )
 
   pub worst_case : (rights : List RightAtLimit) (sum : ℤ) → Small rights → sum ≡ load means worst month limit rights → WorstCase means allowed month limit rights sum
@@ -62,8 +61,3 @@ module _ (means : Meaning) (allowed : ℕ → ℕ → Type 0) (worst : ℕ → �
         kept = λ bound h. let all = h some.0 some.1 in omega (arith, ints, some.2);
         passed = λ bound h. (some.0, some.1, omega (arith, ints, some.2));
       }
-
--- a sum that is the worst case decides whether every choice stays within a bound
-pub decided : (means : Meaning) (allowed : ℕ → ℕ → Type 0) (month limit : ℕ) (rights : List RightAtLimit) (sum bound : ℤ) (b : Bool) → WorstCase means allowed month limit rights sum → MatchBool b (sum ≤ℤ bound) (bound <ℤ sum) → MatchBool b (Within means allowed month limit rights bound) (Passable means allowed month limit rights bound)
-decided means allowed month limit rights sum bound true w h = w.keeps bound h
-decided means allowed month limit rights sum bound false w h = w.passed bound h

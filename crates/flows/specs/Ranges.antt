@@ -1,5 +1,5 @@
 -- What is kept of a number lies in its range.
-use Rattle.std.specs.Prelude.{ℕ, ◌&&◌, List, [], ◌∷◌, length, ℤ, pos, neg_ℤ, Some, None, int_le, nat_le}
+use Rattle.std.specs.Prelude.{ℕ, ◌&&◌, List, length, ℤ, pos, neg_ℤ, Some, None, int_le, nat_le, find, option_and_then}
 use Rattle.std.proofs.Common.{arith}
 use Rattle.std.proofs.lemmas.Int.{ints}
 use Rattle.std.proofs.lemmas.Bool.{cond_both, and_parts}
@@ -14,9 +14,11 @@ kept_ranged f = cond_both (int_le (neg_ℤ (pos most_factor)) f && int_le f (pos
     (λ _. tt)
 
 pub first_fitting_ranged : (month limit injection withdrawal : ℕ) (rows : List PairRow) → Ranged (first_fitting month limit injection withdrawal rows)
-first_fitting_ranged month limit injection withdrawal [] = tt
-first_fitting_ranged month limit injection withdrawal (row ∷ rows) =
-    cond_both (fits month limit injection withdrawal row) _ _ Ranged (λ _. kept_ranged row.factor) (λ _. first_fitting_ranged month limit injection withdrawal rows)
+first_fitting_ranged month limit injection withdrawal rows =
+    elim (find (fits month limit injection withdrawal) rows) as (λ o. Ranged (option_and_then (λ row. kept (pos most_factor) row.factor) o)) [
+      | Some row ↦ kept_ranged row.factor
+      | None ↦ tt
+    ]
 
 pub pair_factor_ranged : (rows : List PairRow) (month limit injection withdrawal : ℕ) → Ranged (pair_factor rows month limit injection withdrawal)
 pair_factor_ranged rows month limit injection withdrawal =

@@ -1,4 +1,4 @@
-ghost use Rattle.std.specs.Prelude.{◌≡◌, ◌≤ℤ◌, ◌<ℤ◌, IfOk, MatchBool};
+ghost use Rattle.std.specs.Prelude.{◌≡◌, IfOk, MatchBool};
 ghost use Rattle.std.specs.Result.{result_err};
 ghost use Rattle.flows.specs.Choices.{Within, Passable, WorstCase};
 ghost use Rattle.flows.specs.Loads.{counts, fault, worst_of, judged, no_load, load};
@@ -11,13 +11,14 @@ use terms::{MOST_POWER, Refusal};
 pub const MOST_RIGHTS: usize = 1_000_000;
 
 // A right as a limit sees it: with the limit's mark of its pair of areas.
-#[derive(Clone, Copy)]
+#[derive(Clone, Copy, Debug, PartialEq, Eq)]
 pub struct RightAtLimit {
     pub power: u32,
     pub injection: u32,
     pub withdrawal: u32,
     pub first: u32,
     pub last: u32,
+    // Beside it stands no value: a right that is not marked loads nothing.
     pub marked: bool,
 }
 
@@ -26,11 +27,12 @@ impl RightAtLimit {
     fn counts(&self, month: u32) -> bool
         ensures { result ≡ counts month self.now }
     {
-        self.first <= month && month <= self.last && self.marked
+        (self.first..=self.last).contains(&month) && self.marked
     }
 }
 
 // The worst flow of the right at a place of the list, 0 where the limit does not count it.
+// Source, rule, month and limit come apart, as the public calls take them: a struct of them would serve this function alone.
 fn worst_of<S: FactorSource, R: UseRule>(
     source: &S,
     rule: &R,
@@ -39,7 +41,7 @@ fn worst_of<S: FactorSource, R: UseRule>(
     place: usize,
     right: &RightAtLimit,
 ) -> Result<i64, Refusal>
-    ensures value { result ≡ judged (fault (S.FactorSource.means source.now) month limit place right.now) (worst_of (S.FactorSource.means source.now) (R.UseRule.worst rule.now) month limit right.now) }
+    ensures value { let means = S.FactorSource.means source.now in result ≡ judged (fault means month limit place right.now) (worst_of means (R.UseRule.worst rule.now) month limit right.now) }
 {
     if right.power > MOST_POWER {
         return Err(Refusal::BadLine { place });
@@ -47,14 +49,14 @@ fn worst_of<S: FactorSource, R: UseRule>(
     if !right.counts(month) {
         return Ok(0);
     }
-    match source.factor(month, limit, right.injection, right.withdrawal) {
-        Some(factor) => Ok(rule.worst_flow(right.power, factor)),
-        None => Err(Refusal::NoFactor {
+    let factor = source
+        .factor(month, limit, right.injection, right.withdrawal)
+        .ok_or(Refusal::NoFactor {
             place,
             month,
             limit,
-        }),
-    }
+        })?;
+    Ok(rule.worst_flow(right.power, factor))
 }
 
 // The load of a limit in a month: the sum of the worst flows of the rights.
@@ -65,7 +67,7 @@ pub fn worst_load<S: FactorSource, R: UseRule>(
     limit: u32,
     rights: &[RightAtLimit],
 ) -> Result<i64, Refusal>
-    ensures value { result ≡ judged (no_load (S.FactorSource.means source.now) month limit rights.now) (load (S.FactorSource.means source.now) (R.UseRule.worst rule.now) month limit rights.now) }
+    ensures value { let means = S.FactorSource.means source.now in result ≡ judged (no_load means month limit rights.now) (load means (R.UseRule.worst rule.now) month limit rights.now) }
     ensures worst { IfOk result (λ sum. WorstCase (S.FactorSource.means source.now) (R.UseRule.allowed rule.now) month limit rights.now sum) }
 {
     if rights.len() > MOST_RIGHTS {
@@ -78,13 +80,6 @@ pub fn worst_load<S: FactorSource, R: UseRule>(
     Ok(sum)
 }
 
-// Whether a sum of flows stays within a bound.
-fn keeps(sum: i64, bound: i64) -> bool
-    ensures { MatchBool result (sum ≤ℤ bound) (bound <ℤ sum) }
-{
-    sum <= bound
-}
-
 // Whether every choice of uses keeps the flow at a limit in a month within a bound.
 pub fn within_bound<S: FactorSource, R: UseRule>(
     source: &S,
@@ -95,8 +90,8 @@ pub fn within_bound<S: FactorSource, R: UseRule>(
     bound: i64,
 ) -> Result<bool, Refusal>
     ensures refusal { result_err result ≡ no_load (S.FactorSource.means source.now) month limit rights.now }
-    ensures choices { IfOk result (λ yes. MatchBool yes (Within (S.FactorSource.means source.now) (R.UseRule.allowed rule.now) month limit rights.now bound) (Passable (S.FactorSource.means source.now) (R.UseRule.allowed rule.now) month limit rights.now bound)) }
+    ensures choices { let means = S.FactorSource.means source.now in let allowed = R.UseRule.allowed rule.now in IfOk result (λ yes. MatchBool yes (Within means allowed month limit rights.now bound) (Passable means allowed month limit rights.now bound)) }
 {
     let sum = worst_load(source, rule, month, limit, rights)?;
-    Ok(keeps(sum, bound))
+    Ok(sum <= bound)
 }

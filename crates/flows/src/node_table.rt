@@ -8,7 +8,7 @@ use std::alloc::{AllocError, Global};
 use terms::{MONTHS, MOST_ENTRY, MOST_LIMITS, MOST_NODES};
 
 // A table with an entry for each month, limit and node; a factor is the difference of two entries.
-#[derive(Drop)]
+#[derive(Debug, Drop)]
 pub struct NodeTable {
     limits: u32,
     nodes: u32,
@@ -48,16 +48,14 @@ impl NodeTable {
         Ok(())
     }
 
-    // Whether the counts, the month, the limit and the node have their ranges.
+    // Whether the counts, the month, the limit and the node have their ranges. The three come apart, as a source is asked.
     fn has(&self, month: u32, limit: u32, node: u32) -> bool
         ensures { result ≡ in_table self.now.limits self.now.nodes month limit node }
     {
         self.limits <= MOST_LIMITS
             && self.nodes <= MOST_NODES
-            && 1 <= month
-            && month <= MONTHS
-            && 1 <= limit
-            && limit <= self.limits
+            && (1..=MONTHS).contains(&month)
+            && (1..=self.limits).contains(&limit)
             && node < self.nodes
     }
 
@@ -69,20 +67,14 @@ impl NodeTable {
             return None;
         }
         let place = (((month - 1) * self.limits + (limit - 1)) * self.nodes + node) as usize;
-        if place >= self.entries.len() {
-            return None;
-        }
-        Some(self.entries[place])
+        self.entries.get(place).copied()
     }
 
     // The entry of a node in a month at a limit, if it lies in its range.
     fn entry(&self, month: u32, limit: u32, node: u32) -> Option<i32>
         ensures { result ≡ entry_at self.now.limits self.now.nodes self.now.entries.items month limit node }
     {
-        match self.stored(month, limit, node) {
-            Some(value) => within(MOST_ENTRY, value),
-            None => None,
-        }
+        within(MOST_ENTRY, self.stored(month, limit, node)?)
     }
 }
 

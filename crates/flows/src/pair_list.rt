@@ -1,7 +1,6 @@
-ghost use Rattle.std.specs.Prelude.{◌≡◌, [], ◌∷◌, ◌++◌, length, pos, is_ok, if◌then◌else◌, MatchOption};
-ghost use Rattle.terms.specs.Ranges.{most_factor};
-ghost use Rattle.flows.specs.Factors.{kept};
-ghost use Rattle.flows.specs.PairRows.{fits, NoneFits, FirstFits, pair_factor};
+ghost use Rattle.std.specs.Prelude.{◌≡◌, [], ◌∷◌, ◌++◌, is_ok, if◌then◌else◌, find};
+ghost use Rattle.std.specs.Option.{option_copied};
+ghost use Rattle.flows.specs.PairRows.{fits, pair_factor};
 ghost use Rattle.flows.specs.Ranges.{pair_factor_ranged};
 
 use crate::range::within;
@@ -10,7 +9,7 @@ use std::alloc::{AllocError, Global};
 use terms::{MOST_FACTOR, MOST_PAIR_ROWS};
 
 // The factor of an injection and a withdrawal node in a month at a limit.
-#[derive(Clone, Copy)]
+#[derive(Clone, Copy, Debug, PartialEq, Eq)]
 pub struct PairRow {
     pub month: u32,
     pub limit: u32,
@@ -21,6 +20,7 @@ pub struct PairRow {
 
 impl PairRow {
     // Whether the row is of this month, limit and pair of nodes.
+    // The four numbers come apart, as a source is asked: a struct of them would be made for this comparison alone.
     fn fits(&self, month: u32, limit: u32, injection: u32, withdrawal: u32) -> bool
         ensures { result ≡ fits month limit injection withdrawal self.now }
     {
@@ -29,17 +29,10 @@ impl PairRow {
             && self.injection == injection
             && self.withdrawal == withdrawal
     }
-
-    // The row's factor, if it lies in its range.
-    fn factor_in_range(&self) -> Option<i32>
-        ensures { result ≡ kept (pos most_factor) self.now.factor }
-    {
-        within(MOST_FACTOR, self.factor)
-    }
 }
 
 // A list of factors; the first row that fits decides.
-#[derive(Drop)]
+#[derive(Debug, Drop)]
 pub struct PairList {
     rows: Vec<PairRow>,
 }
@@ -54,13 +47,6 @@ impl PairList {
         }
     }
 
-    // A list of these rows.
-    pub fn from_rows(rows: Vec<PairRow>) -> PairList
-        ensures { result.rows.items ≡ rows.items }
-    {
-        PairList { rows }
-    }
-
     // Puts a row after the others.
     pub fn push(&mut self, row: PairRow) -> Result<(), AllocError>
         ensures { self.new.rows.items ≡ (if is_ok result then self.old.rows.items ++ row ∷ [] else self.old.rows.items) }
@@ -68,24 +54,30 @@ impl PairList {
         self.rows.push(row)?;
         Ok(())
     }
+
+    // The first row that fits.
+    fn first_fitting(
+        &self,
+        month: u32,
+        limit: u32,
+        injection: u32,
+        withdrawal: u32,
+    ) -> Option<&PairRow>
+        ensures { option_copied result ≡ find (fits month limit injection withdrawal) self.now.rows.items }
+    {
+        self.rows
+            .iter()
+            .find(|row| row.fits(month, limit, injection, withdrawal))
+    }
 }
 
-// The place of the first row that fits.
-fn first_fitting(
-    rows: &[PairRow],
-    month: u32,
-    limit: u32,
-    injection: u32,
-    withdrawal: u32,
-) -> Option<usize>
-    ensures { MatchOption result (NoneFits month limit injection withdrawal rows.now (length rows.now)) (λ k. FirstFits month limit injection withdrawal rows.now k) }
-{
-    for (i, row) in rows.iter().enumerate() {
-        if row.fits(month, limit, injection, withdrawal) {
-            return Some(i);
-        }
+// A list of these rows.
+impl From<Vec<PairRow>> for PairList {
+    ghost from_gives = { λ rows list. list.rows.items ≡ rows.items };
+
+    fn from(rows: Vec<PairRow>) -> PairList {
+        PairList { rows }
     }
-    None
 }
 
 impl FactorSource for PairList {
@@ -97,9 +89,7 @@ impl FactorSource for PairList {
         if self.rows.len() > MOST_PAIR_ROWS {
             return None;
         }
-        match first_fitting(&self.rows, month, limit, injection, withdrawal) {
-            Some(place) => self.rows[place].factor_in_range(),
-            None => None,
-        }
+        let row = self.first_fitting(month, limit, injection, withdrawal)?;
+        within(MOST_FACTOR, row.factor)
     }
 }

@@ -6,9 +6,5 @@ pub(crate) fn within(most: i32, value: i32) -> Option<i32>
     requires { pos 0 ≤ℤ most }
     ensures { result ≡ kept most value }
 {
-    if -most <= value && value <= most {
-        Some(value)
-    } else {
-        None
-    }
+    (-most..=most).contains(&value).then_some(value)
 }

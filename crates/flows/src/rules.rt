@@ -1,8 +1,7 @@
-ghost use Rattle.std.specs.Prelude.{◌≡◌, pos, ◌*ℤ◌, refl};
+ghost use Rattle.std.specs.Prelude.{◌≡◌, pos, ◌*ℤ◌};
 ghost use Rattle.flows.specs.Rules.{up_to_all, all_of, firm_worst, obligation_worst};
-ghost use Rattle.std.proofs.Common.{arith, rules};
+ghost use Rattle.std.proofs.Common.{rules};
 ghost use Rattle.flows.specs.Products.{firm_attained, firm_dominates};
-ghost use Rattle.std.specs.Int.Signed.{≤ℤ_refl};
 
 use crate::rule::UseRule;
 
@@ -14,8 +13,8 @@ fn flow(factor: i32, used: u32) -> i64
 }
 
 // The firm rule: the holder may use any part of the power.
-#[derive(Clone, Copy)]
-pub struct FirmRule {}
+#[derive(Clone, Copy, Debug, PartialEq, Eq)]
+pub struct FirmRule;
 
 impl UseRule for FirmRule {
     ghost allowed = { λ _ power used. up_to_all power used };
@@ -24,20 +23,20 @@ impl UseRule for FirmRule {
 
     ghost bounded = { Prim.search rules };
 
-    ghost usable = { λ s p h. (0, omega arith) };
+    ghost usable = { Prim.search rules };
 
-    ghost attained = { λ s p f h k. firm_attained f p };
+    ghost attained = { Prim.search (rules, firm_attained) };
 
-    ghost dominates = { λ s p u f h k a. firm_dominates f p u a };
+    ghost dominates = { Prim.search (rules, firm_dominates) };
 
     fn worst_flow(&self, power: u32, factor: i32) -> i64 {
-        if factor > 0 { flow(factor, power) } else { 0 }
+        flow(factor.max(0), power)
     }
 }
 
 // The obligation rule: the holder has to use the whole power.
-#[derive(Clone, Copy)]
-pub struct ObligationRule {}
+#[derive(Clone, Copy, Debug, PartialEq, Eq)]
+pub struct ObligationRule;
 
 impl UseRule for ObligationRule {
     ghost allowed = { λ _ power used. all_of power used };
@@ -46,11 +45,11 @@ impl UseRule for ObligationRule {
 
     ghost bounded = { Prim.search rules };
 
-    ghost usable = { λ s p h. (p, refl) };
+    ghost usable = { Prim.search rules };
 
-    ghost attained = { λ s p f h k. (p, refl, refl) };
+    ghost attained = { Prim.search rules };
 
-    ghost dominates = { λ s p u f h k a. rw a (≤ℤ_refl _) };
+    ghost dominates = { Prim.search rules };
 
     fn worst_flow(&self, power: u32, factor: i32) -> i64 {
         flow(factor, power)

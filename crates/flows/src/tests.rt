@@ -126,7 +126,7 @@ fn pair_list(rt: HostRuntime) -> Result<(), Fail> {
 
 #[test]
 fn long_pair_list(rt: HostRuntime) -> Result<(), Fail> {
-    let mut list = PairList::from_rows(vec![in rt.alloc(); row(1, 1, 0, 1, 5); 1_000_000]?);
+    let mut list = PairList::from(vec![in rt.alloc(); row(1, 1, 0, 1, 5); 1_000_000]?);
     check_answers(&rt, &list, &FIVE);
     list.push(row(1, 1, 0, 1, 5))?;
     check_answers(&rt, &list, &NONE);
@@ -145,19 +145,8 @@ fn worst_flows(rt: HostRuntime) {
         (150_000, -1_000_000, 0, -150_000_000_000),
     ];
     for (power, factor, firm, obligation) in cases {
-        assert_eq!(rt; FirmRule {}.worst_flow(power, factor), firm);
-        assert_eq!(rt; ObligationRule {}.worst_flow(power, factor), obligation);
-    }
-}
-
-// A load, or a refusal's number, place, month and limit.
-fn told(load: Result<i64, Refusal>) -> (i64, u32, usize, u32, u32) {
-    match load {
-        Ok(sum) => (sum, 0, 0, 0, 0),
-        Err(refusal) => {
-            let f = refusal.fields();
-            (0, f.number, f.place, f.month, f.limit)
-        }
+        assert_eq!(rt; FirmRule.worst_flow(power, factor), firm);
+        assert_eq!(rt; ObligationRule.worst_flow(power, factor), obligation);
     }
 }
 
@@ -181,10 +170,8 @@ const fn right(
 // A southward right, a northward one, one that is not valid in month 2 and one whose pair is not marked.
 #[test]
 fn southward_and_northward(rt: HostRuntime) -> Result<(), Fail> {
-    let source = PairList::from_rows([
-        row(2, 1, 0, 1, 1_000_000),
-        row(2, 1, 1, 0, -1_000_000),
-    ].to_vec(rt.alloc())?);
+    let rows = [row(2, 1, 0, 1, 1_000_000), row(2, 1, 1, 0, -1_000_000)];
+    let source = PairList::from(rows.to_vec(rt.alloc())?);
     let rights = [
         right(200_000, 0, 1, 2, true),
         right(150_000, 1, 0, 4, true),
@@ -192,28 +179,29 @@ fn southward_and_northward(rt: HostRuntime) -> Result<(), Fail> {
         right(100_000, 5, 5, 4, false),
     ];
     assert_eq!(rt;
-        told(worst_load(&source, &FirmRule {}, 2, 1, &rights)),
-        (200_000_000_000, 0, 0, 0, 0)
+        worst_load(&source, &FirmRule, 2, 1, &rights),
+        Ok(200_000_000_000)
     );
     assert_eq!(rt;
-        told(worst_load(&source, &ObligationRule {}, 2, 1, &rights)),
-        (50_000_000_000, 0, 0, 0, 0)
+        worst_load(&source, &ObligationRule, 2, 1, &rights),
+        Ok(50_000_000_000)
     );
     assert_eq!(rt;
-        told(worst_load(&source, &FirmRule {}, 3, 1, &rights)),
-        (0, 10, 2, 3, 1)
+        worst_load(&source, &FirmRule, 3, 1, &rights),
+        Err(Refusal::NoFactor {
+            place: 2,
+            month: 3,
+            limit: 1
+        })
+    );
+    assert_eq!(rt; worst_load(&source, &FirmRule, 5, 1, &rights), Ok(0));
+    assert_eq!(rt;
+        within_bound(&source, &FirmRule, 2, 1, &rights, 200_000_000_000),
+        Ok(true)
     );
     assert_eq!(rt;
-        told(worst_load(&source, &FirmRule {}, 5, 1, &rights)),
-        (0, 0, 0, 0, 0)
-    );
-    assert_eq!(rt;
-        within_bound(&source, &FirmRule {}, 2, 1, &rights, 200_000_000_000).ok(),
-        Some(true)
-    );
-    assert_eq!(rt;
-        within_bound(&source, &FirmRule {}, 2, 1, &rights, 199_999_999_999).ok(),
-        Some(false)
+        within_bound(&source, &FirmRule, 2, 1, &rights, 199_999_999_999),
+        Ok(false)
     );
     Ok(())
 }
@@ -226,18 +214,15 @@ fn refused_loads(rt: HostRuntime) -> Result<(), Fail> {
         right(1_000_001, 0, 1, 2, false),
     ];
     assert_eq!(rt;
-        told(worst_load(&source, &FirmRule {}, 2, 1, &over)),
-        (0, 8, 2, 0, 0)
+        worst_load(&source, &FirmRule, 2, 1, &over),
+        Err(Refusal::BadLine { place: 2 })
     );
     let mut many = vec![in rt.alloc(); right(1, 0, 1, 2, false); 1_000_000]?;
-    assert_eq!(rt;
-        told(worst_load(&source, &FirmRule {}, 2, 1, &many)),
-        (0, 0, 0, 0, 0)
-    );
+    assert_eq!(rt; worst_load(&source, &FirmRule, 2, 1, &many), Ok(0));
     many.push(right(1, 0, 1, 2, false))?;
     assert_eq!(rt;
-        told(worst_load(&source, &FirmRule {}, 2, 1, &many)),
-        (0, 12, 0, 0, 0)
+        worst_load(&source, &FirmRule, 2, 1, &many),
+        Err(Refusal::NoRoom)
     );
     Ok(())
 }

@@ -1,4 +1,4 @@
 pub mod Sums
 pub mod Splits
+pub mod Spans
 pub mod Lateness
-pub mod Products

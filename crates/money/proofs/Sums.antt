@@ -1,6 +1,8 @@
 -- What is joined over months, month by month.
-use Rattle.std.proofs.Common.{◌≡◌, ℕ, zero, suc, ◌+◌, ◌-◌, ◌<◌, ◌≤◌, Bool, true, false, ◌||◌, ap, ◌∙◌, subst, ⊎_elim, add-one, arith}
-use Rattle.std.proofs.lemmas.Bool.{or_cases, or_from, or_left, or_right, cases_order, false≢true}
+use Rattle.std.proofs.Common.{◌≡◌, ℕ, zero, suc, ◌+◌, ◌-◌, ◌*◌, ◌<◌, ◌≤◌, ℤ, pos, neg_ℤ, ◌+ℤ◌, ◌≤ℤ◌, w64, SFits, sym, Bool, true, ap, ◌∙◌, subst, ⊎_elim, add-one, arith}
+use Rattle.std.proofs.lemmas.Bool.{or_cases, or_left, or_right, cases_order, false≢true}
+use Rattle.std.proofs.lemmas.Int.{ints}
+use Rattle.money.specs.Floors.{signed_sum}
 use Rattle.money.specs.Months.{over_months, sum, some_month}
 
 -- the months from a to m, after those before m
@@ -9,10 +11,6 @@ over_next join none f a m h =
     let n : m + 1 - a ≡ m - a + 1 = omega arith in
     let e : a + (m - a) ≡ m = omega arith in
     ap (over_months join none f a) (n ∙ add-one (m - a)) ∙ ap (λ b. join (over_months join none f a (m - a)) (f b)) e
-
--- in none of the months before m, nor in m
-pub none_next : (t : ℕ → Bool) (a m : ℕ) → a ≤ m → some_month t a (m - a) ≡ false → t m ≡ false → some_month t a (m + 1 - a) ≡ false
-none_next t a m h e l = over_next (λ x y. x || y) false t a m h ∙ or_from (some_month t a (m - a)) (t m) e l
 
 -- a month and those before it are part of the sum
 pub sum_part : (f : ℕ → ℕ) (a n i : ℕ) → i < n → sum f a i + f (a + i) ≤ sum f a n
@@ -44,3 +42,17 @@ some_is t a (suc n) e =
     (λ s. let w = some_is t a n s in let l : w.0 < suc n = omega (arith, w.1) in (w.0, l, w.2))
     (λ s. (n, omega arith, s))
     (or_cases (some_month t a n) (t (a + n)) e)
+
+-- the sum of f from a to the month before m, and how far from 0 it can be
+abbrev pub SummedTo : (ℕ → ℤ) → ℕ → ℕ → ℤ → Type 0
+SummedTo f a m s =
+    (s ≡ signed_sum f a (m - a))
+    × (neg_ℤ (pos (9223372036854775808 * (m - a))) ≤ℤ s) × (s ≤ℤ pos (9223372036854775808 * (m - a)))
+
+-- one month more
+pub summed_next : (f : ℕ → ℤ) (a m : ℕ) (s x : ℤ) → a ≤ m → SFits w64 x → x ≡ f m → SummedTo f a m s → SummedTo f a (m + 1) (s +ℤ x)
+summed_next f a m s x h fits e so = (
+  ap (λ y. y +ℤ x) so.0 ∙ ap (λ y. signed_sum f a (m - a) +ℤ y) e ∙ sym (over_next (λ y z. y +ℤ z) (pos 0) f a m h),
+  omega (arith, ints, so.1),
+  omega (arith, ints, so.2),
+)

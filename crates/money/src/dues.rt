@@ -1,14 +1,14 @@
-ghost use Rattle.std.specs.Prelude.{◌≡◌, ℕ, ◌+◌, ◌-◌, ◌*◌, ◌<◌, ◌≤◌, false, Decides, MatchOption};
+ghost use Rattle.std.specs.Prelude.{◌≡◌, ◌-◌, false, Decides, MatchOption};
 ghost use Rattle.calendar.specs.Figures.{figures};
 ghost use Rattle.money.specs.Months.{IsValid};
-ghost use Rattle.money.specs.Instalments.{earlier as earlier_of, Even, instalment as instalment_of, SumToCharge};
-ghost use Rattle.money.specs.Payments.{debt as debt_of, late as late_of, overdue as overdue_of, Overdue, paid_in, Splits};
+ghost use Rattle.money.specs.Instalments.{Even, SumToCharge};
+ghost use Rattle.money.specs.Charges.{IsDue, instalment_of, earlier_of, paid_of, IsPartOf, debt_of, late_of, overdue_of, AreOverdue};
 
 use crate::months::MonthSpan;
 use calendar::Calendar;
 
 // A charge over the valid months of a right, and what is paid of it.
-#[derive(Clone, Copy)]
+#[derive(Clone, Copy, Debug, PartialEq, Eq)]
 pub struct Dues {
     pub months: MonthSpan,
     pub charge: u64,
@@ -16,7 +16,7 @@ pub struct Dues {
 }
 
 // The instalment of a month, what is paid of it and what it lacks.
-#[derive(Clone, Copy)]
+#[derive(Clone, Copy, Debug, PartialEq, Eq)]
 pub struct Instalment {
     pub amount: u64,
     pub paid: u64,
@@ -25,60 +25,59 @@ pub struct Instalment {
 
 impl Dues {
     // What is still to pay: the sum of what the instalments lack.
+    #[tactic(auto, using(crate::proofs::Splits::debt_rest))]
     pub fn debt(self) -> u64
-        ensures value { result ≡ debt_of self.charge self.paid self.months.first self.months.last }
+        ensures value { result ≡ debt_of self }
         ensures rest { result ≡ self.charge - self.paid }
-    {
-        self.unpaid()
-    }
-
-    // The instalment of a month, if the month is valid.
-    pub fn instalment(self, month: u32) -> Option<Instalment>
-        ensures month { MatchOption result (IsValid self.months.first self.months.last month → ⊥) (λ i. IsValid self.months.first self.months.last month × Splits self.charge self.paid self.months.first self.months.last month i) }
-        ensures whole { SumToCharge self.charge self.months.first self.months.last }
-        ensures even { Even self.charge self.months.first self.months.last }
-    {
-        self.of_month(month)
-    }
-
-    // Whether some instalment lacks something and the day is past its pay day.
-    pub fn overdue(self, calendar: &Calendar, day: u32) -> bool
-        ensures value { result ≡ overdue_of (figures calendar.now) self.charge self.paid self.months.first self.months.last day }
-        ensures month { Decides result (Overdue (figures calendar.now) self.charge self.paid self.months.first self.months.last day) }
-        ensures settled { debt_of self.charge self.paid self.months.first self.months.last ≡ 0 → result ≡ false }
-    {
-        for month in self.months.first()..self.months.last() + 1 {
-            if self.late(calendar, day, month) {
-                return true;
-            }
-        }
-        false
-    }
-
-    // What of the charge is not paid.
-    fn unpaid(self) -> u64
-        ensures { result ≡ self.charge - self.paid }
     {
         self.charge.saturating_sub(self.paid)
     }
 
-    fn of_month(self, month: u32) -> Option<Instalment>
-        ensures { MatchOption result (IsValid self.months.first self.months.last month → ⊥) (λ i. IsValid self.months.first self.months.last month × Splits self.charge self.paid self.months.first self.months.last month i) }
+    // The instalment of a month, if the month is valid.
+    #[tactic(auto, using(crate::proofs::Splits::sum_to_charge))]
+    pub fn instalment(self, month: u32) -> Option<Instalment>
+        ensures month { MatchOption result (IsDue self month → ⊥) (λ i. IsDue self month × IsPartOf self month i) }
+        ensures whole { SumToCharge self.charge self.months.first self.months.last }
+        ensures even { Even self.charge self.months.first self.months.last }
     {
-        if self.months.contains(month) {
-            Some(self.part(month))
-        } else {
-            None
+        if !self.months.contains(month) {
+            return None;
         }
+        Some(DueMonth { dues: self, month }.instalment())
     }
 
-    // The instalment of a valid month.
-    fn part(self, month: u32) -> Instalment
-        requires { IsValid self.months.first self.months.last month }
-        ensures { Splits self.charge self.paid self.months.first self.months.last month result }
+    // Whether some instalment lacks something and the day is past its pay day.
+    pub fn overdue(self, calendar: &Calendar, day: u32) -> bool
+        ensures value { result ≡ overdue_of (figures calendar.now) self day }
+        ensures month { Decides result (AreOverdue (figures calendar.now) self day) }
+        ensures settled { debt_of self ≡ 0 → result ≡ false }
     {
-        let amount = self.amount(month);
-        let paid = self.paid_in(month);
+        (self.months.first()..=self.months.last()).any(|month| self.late(calendar, day, month))
+    }
+
+    // Whether the instalment of a month lacks something and the day is past its pay day.
+    fn late(self, calendar: &Calendar, day: u32, month: u32) -> bool
+        ensures { IsDue self month → result ≡ late_of (figures calendar.now) self day month }
+    {
+        self.instalment(month).is_some_and(|part| part.lacking > 0)
+            && calendar.pay_day(month).is_ok_and(|pay_day| day > pay_day)
+    }
+}
+
+// A month in which an instalment is due.
+#[derive(Clone, Copy)]
+struct DueMonth {
+    dues: Dues,
+    month: u32,
+    ghost due: { IsValid dues.months.first dues.months.last month },
+}
+
+impl DueMonth {
+    fn instalment(self) -> Instalment
+        ensures { IsPartOf self.dues self.month result }
+    {
+        let amount = self.amount();
+        let paid = self.paid();
         Instalment {
             amount,
             paid,
@@ -87,14 +86,13 @@ impl Dues {
     }
 
     // The whole quotient, and a cent more in the lowest months until the remainder is used.
-    fn amount(self, month: u32) -> u64
-        requires { IsValid self.months.first self.months.last month }
-        ensures { result ≡ instalment_of self.charge self.months.first self.months.last month }
+    fn amount(self) -> u64
+        ensures { result ≡ instalment_of self.dues self.month }
     {
-        let place = (month - self.months.first()) as u64;
-        let count = self.months.count() as u64;
-        let quotient = self.charge / count;
-        if place < self.charge % count {
+        let place = self.place();
+        let count = u64::from(self.dues.months.count());
+        let quotient = self.dues.charge / count;
+        if place < self.dues.charge % count {
             quotient + 1
         } else {
             quotient
@@ -102,29 +100,28 @@ impl Dues {
     }
 
     // The instalments of the months before this one.
-    fn earlier(self, month: u32) -> u64
-        requires { IsValid self.months.first self.months.last month }
-        ensures { result ≡ earlier_of self.charge self.months.first self.months.last month }
+    #[tactic(auto, using(crate::proofs::Splits::earlier_split))]
+    fn earlier(self) -> u64
+        ensures { result ≡ earlier_of self.dues self.month }
     {
-        let place = (month - self.months.first()) as u64;
-        let count = self.months.count() as u64;
-        place * (self.charge / count) + place.min(self.charge % count)
+        let place = self.place();
+        let count = u64::from(self.dues.months.count());
+        let charge = self.dues.charge;
+        place * (charge / count) + place.min(charge % count)
     }
 
     // What of the payments is in the month's instalment, after the earlier ones.
-    fn paid_in(self, month: u32) -> u64
-        requires { IsValid self.months.first self.months.last month }
-        ensures { result ≡ paid_in self.charge self.paid self.months.first self.months.last month }
+    fn paid(self) -> u64
+        ensures { result ≡ paid_of self.dues self.month }
     {
-        let left = self.paid.saturating_sub(self.earlier(month));
-        self.amount(month).min(left)
+        let left = self.dues.paid.saturating_sub(self.earlier());
+        self.amount().min(left)
     }
 
-    // Whether the instalment of a valid month lacks something and the day is past its pay day.
-    fn late(self, calendar: &Calendar, day: u32, month: u32) -> bool
-        requires { IsValid self.months.first self.months.last month }
-        ensures { result ≡ late_of (figures calendar.now) self.charge self.paid self.months.first self.months.last day month }
+    // How many months are before this one.
+    fn place(self) -> u64
+        ensures { result ≡ self.month - self.dues.months.first }
     {
-        self.part(month).lacking > 0 && day > calendar.pay_day(month).unwrap()
+        u64::from(self.month - self.dues.months.first())
     }
 }

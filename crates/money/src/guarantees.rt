@@ -1,4 +1,4 @@
-ghost use Rattle.std.specs.Prelude.{◌≡◌, ◌≤◌};
+ghost use Rattle.std.specs.Prelude.{◌≡◌};
 ghost use Rattle.money.specs.Guarantees.{fraction, guarantee as guarantee_due, LeastCover};
 
 // What a right from the first month to the last holds of its offer: a fifth for one month, a tenth for more, rounded up.

@@ -2,7 +2,7 @@ ghost use Rattle.std.specs.Prelude.{◌≡◌, ◌≤◌, Decides, MatchOption};
 ghost use Rattle.money.specs.Months.{IsValid, month_count};
 
 // The valid months of a right, first to last.
-#[derive(Clone, Copy)]
+#[derive(Clone, Copy, Debug, PartialEq, Eq)]
 pub struct MonthSpan {
     first: u32,
     last: u32,
@@ -45,6 +45,6 @@ impl MonthSpan {
     pub fn contains(self, month: u32) -> bool
         ensures { Decides result (IsValid self.first self.last month) }
     {
-        month >= self.first && month <= self.last
+        (self.first..=self.last).contains(&month)
     }
 }

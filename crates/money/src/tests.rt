@@ -1,4 +1,4 @@
-use crate::{Dues, MonthSpan, Transfer};
+use crate::{Dues, MonthSpan, Transfer, guarantee};
 use calendar::Calendar;
 use std::test::Fail;
 use terms::Refusal;
@@ -17,8 +17,8 @@ fn spans(rt: HostRuntime) {
         (3, 2, false),
         (12, 13, false),
     ];
-    for (first, last, stands) in cases.iter() {
-        assert_eq!(rt; MonthSpan::new(*first, *last).is_some(), *stands);
+    for (first, last, stands) in cases {
+        assert_eq!(rt; MonthSpan::new(first, last).is_some(), stands);
     }
 }
 
@@ -33,8 +33,8 @@ fn guarantees(rt: HostRuntime) {
         (12, 0, 0),
         (1, 2_000_000_000_000, 400_000_000_000),
     ];
-    for (last, offer, guarantee) in cases.iter() {
-        assert_eq!(rt; crate::guarantee(*offer, 1, *last), *guarantee);
+    for (last, offer, least) in cases {
+        assert_eq!(rt; guarantee(offer, 1, last), least);
     }
 }
 
@@ -50,18 +50,19 @@ fn instalments(rt: HostRuntime) -> Result<(), Fail> {
         (3, 0, 0, 0, [0, 0, 0], [0, 0, 0]),
         (12, 26, 0, 26, [3, 3, 2], [3, 3, 2]),
     ];
-    for (last, charge, paid, debt, amounts, lacks) in cases.iter() {
+    for (last, charge, paid, debt, amounts, lacks) in cases {
+        let months = months(1, last)?;
         let dues = Dues {
-            months: months(1, *last)?,
-            charge: *charge,
-            paid: *paid,
+            months,
+            charge,
+            paid,
         };
-        assert_eq!(rt; dues.debt(), *debt);
-        assert!(rt; dues.instalment(*last + 1).is_none());
-        for month in 1..4 {
+        assert_eq!(rt; dues.debt(), debt);
+        assert!(rt; dues.instalment(last + 1).is_none());
+        for (month, (amount, lacking)) in (1..4).zip(amounts.iter().zip(&lacks)) {
             let instalment = dues.instalment(month).ok_or(Refusal::Unknown)?;
-            assert_eq!(rt; instalment.amount, amounts[month as usize - 1]);
-            assert_eq!(rt; instalment.lacking, lacks[month as usize - 1]);
+            assert_eq!(rt; instalment.amount, *amount);
+            assert_eq!(rt; instalment.lacking, *lacking);
         }
     }
     Ok(())
@@ -100,14 +101,14 @@ fn floors(rt: HostRuntime) -> Result<(), Fail> {
         (0, 1, 1, 12, 1_488_000_000, true),
         (0, 1, 1, 12, 1_487_999_999, false),
     ];
-    for (injection, withdrawal, first, last, offer, reaches) in cases.iter() {
+    for (injection, withdrawal, first, last, offer, reaches) in cases {
         let transfer = Transfer {
-            injection: *injection,
-            withdrawal: *withdrawal,
+            injection,
+            withdrawal,
             power: 200_000,
-            months: months(*first, *last)?,
+            months: months(first, last)?,
         };
-        assert_eq!(rt; transfer.reached_by(&calendar, *offer)?, *reaches);
+        assert_eq!(rt; transfer.reached_by(&calendar, offer)?, reaches);
     }
     Ok(())
 }
@@ -126,13 +127,13 @@ fn overdue(rt: HostRuntime) -> Result<(), Fail> {
         (99, 31, true),
         (100, 1_000_000, false),
     ];
-    for (paid, day, late) in cases.iter() {
+    for (paid, day, late) in cases {
         let dues = Dues {
             months: months(1, 3)?,
             charge: 100,
-            paid: *paid,
+            paid,
         };
-        assert_eq!(rt; dues.overdue(&calendar, *day), *late);
+        assert_eq!(rt; dues.overdue(&calendar, day), late);
     }
     Ok(())
 }

@@ -1,5 +1,8 @@
 -- Bytes as words.
-use Rattle.std.proofs.Common.{◌≡◌, ℕ, zero, suc, ◌+◌, ◌*◌, ◌/◌, ◌<◌, List, [], ◌∷◌, ◌++◌, length, get_or, refl, ap, arith}
+use Rattle.std.proofs.Common.{◌≡◌, ℕ, suc, ◌+◌, ◌*◌, ◌/◌, List, [], ◌∷◌, ◌++◌, map, length, refl, sym, ap, ◌∙◌, take, arith}
+use Rattle.std.proofs.lemmas.List.{take-map}
+use Rattle.std.specs.Int.{w32, from_be_bytes}
+use Rattle.std.specs.Simd.{first_chunks}
 use Rattle.report.specs.Inputs.{whole_words}
 
 pub length-words : (bs : List ℕ) → length (whole_words bs) ≡ length bs / 4
@@ -8,26 +11,6 @@ length-words (a ∷ []) = refl
 length-words (a ∷ b ∷ []) = refl
 length-words (a ∷ b ∷ c ∷ []) = refl
 length-words (a ∷ b ∷ c ∷ d ∷ bs) = omega (arith, length-words bs)
-
--- the word of the four bytes from the index i
-abbrev pub word_at : List ℕ → ℕ → ℕ
-word_at bs i = get_or bs i 0 * 16777216 + get_or bs (i + 1) 0 * 65536 + get_or bs (i + 2) 0 * 256 + get_or bs (i + 3) 0
-
-behind_four : (a b c d : ℕ) (bs : List ℕ) (m n : ℕ) → m ≡ suc (suc (suc (suc n))) → get_or (a ∷ b ∷ c ∷ d ∷ bs) m 0 ≡ get_or bs n 0
-behind_four a b c d bs m n e = ap (λ k. get_or (a ∷ b ∷ c ∷ d ∷ bs) k 0) e
-
-pub get_d_words : (bs : List ℕ) (i : ℕ) → i < length bs / 4 → get_or (whole_words bs) i 0 ≡ word_at bs (4 * i)
-get_d_words [] i h = absurd (omega arith)
-get_d_words (a ∷ []) i h = absurd (omega arith)
-get_d_words (a ∷ b ∷ []) i h = absurd (omega arith)
-get_d_words (a ∷ b ∷ c ∷ []) i h = absurd (omega arith)
-get_d_words (a ∷ b ∷ c ∷ d ∷ bs) zero h = refl
-get_d_words (a ∷ b ∷ c ∷ d ∷ bs) (suc i) h =
-    let e0 = behind_four a b c d bs (4 * suc i) (4 * i) (omega arith) in
-    let e1 = behind_four a b c d bs (4 * suc i + 1) (4 * i + 1) (omega arith) in
-    let e2 = behind_four a b c d bs (4 * suc i + 2) (4 * i + 2) (omega arith) in
-    let e3 = behind_four a b c d bs (4 * suc i + 3) (4 * i + 3) (omega arith) in
-    omega (arith, get_d_words bs i (omega arith))
 
 -- bytes that follow add words at the end
 pub words_front : (bs rest : List ℕ) → (more : List ℕ) × (whole_words (bs ++ rest) ≡ whole_words bs ++ more)
@@ -38,3 +21,18 @@ words_front (a ∷ b ∷ c ∷ []) rest = (whole_words (a ∷ b ∷ c ∷ rest),
 words_front (a ∷ b ∷ c ∷ d ∷ bs) rest =
     let w = words_front bs rest in
     (w.0, ap (λ z. (a * 16777216 + b * 65536 + c * 256 + d) ∷ z) w.1)
+
+-- the chunks of four bytes are the whole words
+pub words_of_chunks : (bs : List ℕ) → map (from_be_bytes w32) (first_chunks 4 (length bs / 4) bs) ≡ whole_words bs
+words_of_chunks [] = refl
+words_of_chunks (a ∷ []) = refl
+words_of_chunks (a ∷ b ∷ []) = refl
+words_of_chunks (a ∷ b ∷ c ∷ []) = refl
+words_of_chunks (a ∷ b ∷ c ∷ d ∷ bs) =
+    let more : length (a ∷ b ∷ c ∷ d ∷ bs) / 4 ≡ suc (length bs / 4) = omega arith in
+    ap (λ k. map (from_be_bytes w32) (first_chunks 4 k (a ∷ b ∷ c ∷ d ∷ bs))) more ∙ ap (λ ws. (a * 16777216 + b * 65536 + c * 256 + d) ∷ ws) (words_of_chunks bs)
+
+-- words that were made of the first i chunks
+pub words_of_first : (bs vs : List ℕ) (fours : List (List ℕ)) (i : ℕ) → fours ≡ first_chunks 4 (length bs / 4) bs → vs ≡ map (from_be_bytes w32) (take i fours) → vs ≡ take i (whole_words bs)
+words_of_first bs vs fours i e h =
+    h ∙ sym (take-map (from_be_bytes w32) i fours) ∙ ap (λ xs. take i (map (from_be_bytes w32) xs)) e ∙ ap (take i) (words_of_chunks bs)

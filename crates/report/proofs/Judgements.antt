@@ -1,28 +1,36 @@
 -- What the first words of an input decide.
-use Rattle.std.proofs.Common.{◌≡◌, ℕ, ◌+◌, ◌-◌, ◌*◌, ◌/◌, ◌<◌, ◌≤◌, ◌⊎◌, List, [], ◌++◌, length, take, drop, sym, refl, ap, ◌∙◌, subst, inl, inr, ⊎_elim, append-nil, arith, length-append, take-append-drop}
+use Rattle.std.proofs.Common.{◌≡◌, ℕ, ◌+◌, ◌-◌, ◌*◌, ◌<◌, ◌≤◌, List, [], ◌++◌, length, take, drop, Ok, Err, sym, refl, ap, ◌∙◌, subst, ⊎_elim, append-nil, arith, length-append, take-append-drop}
 use lib.Seq.{take-append-le}
-use Rattle.std.proofs.lemmas.List.{length-take-le, take_all, drop_all}
+use Rattle.std.proofs.lemmas.List.{length-take-le, take_all}
+use Rattle.std.proofs.lemmas.Bool.{cases_lt}
+use Rattle.std.specs.Prelude.{Result}
 use Rattle.terms.specs.declared.refusal.Refusal.{Refusal}
 use Rattle.terms.specs.declared.refusal.Refusal.TheVariants.{Form}
-use Rattle.submission.specs.Submissions.{Submission, Begins, Sound, RefusedForm, decode}
+use Rattle.submission.specs.Submissions.{Submission, Begins, Sound, RefusedForm}
 use Rattle.submission.proofs.Lines.{length-encode}
-use Rattle.report.specs.declared.verdict.Verdict.{Verdict}
-use Rattle.report.specs.declared.verdict.Verdict.TheVariants.{WellFormed, Refused}
-use Rattle.report.specs.Inputs.{whole_words, Judged, Decided}
+use Rattle.report.specs.declared.input.InputWords.{InputWords}
+use Rattle.report.specs.Inputs.{whole_words, Accepted, RefusedBytes}
+use Rattle.report.specs.Readings.{ReadAs, ReadDecided}
 use Rattle.report.proofs.Bytes.{length-words, words_front}
 
--- a submission has at most 130 words
-pub submission_short : (ws : List ℕ) → Submission ws → length ws ≤ 130
-submission_short ws s = omega (arith, ap length s.2, length-encode s.0, s.1.few)
-
+-- a submission has at most 130 words, and so have words that begin one
 begins_short : (ws : List ℕ) → Begins ws → length ws ≤ 130
 begins_short ws b =
     omega (arith, ap length b.3, length-append ws b.1, length-encode b.0, b.2.few)
 
+begins_whole : (ws : List ℕ) → Submission ws → Begins ws
+begins_whole ws s = (s.0, [], s.1, sym s.2 ∙ sym (append-nil ws))
+
+submission_short : (ws : List ℕ) → Submission ws → length ws ≤ 130
+submission_short ws s = begins_short ws (begins_whole ws s)
+
+-- 521 bytes are no submission
+too_long : (bs : List ℕ) → 521 ≤ length bs → Accepted bs → ⊥
+too_long bs h a = omega (arith, a.0, submission_short (whole_words bs) a.1, length-words bs)
+
 -- words behind the first 130 change nothing
-sound_front : (ws more : List ℕ) (n : ℕ) → (130 ≤ length ws) ⊎ (more ≡ []) → Sound ws n → Sound (ws ++ more) n
-sound_front ws more n (inr e) s = subst (λ m. Sound (ws ++ m) n) (sym e) (subst (λ v. Sound v n) (sym (append-nil ws)) s)
-sound_front ws more n (inl h) s =
+sound_front : (ws more : List ℕ) (n : ℕ) → 130 ≤ length ws → Sound ws n → Sound (ws ++ more) n
+sound_front ws more n h s =
     let long = length-append ws more in
     record {
       within = omega (arith, s.within);
@@ -35,73 +43,63 @@ sound_front ws more n (inl h) s =
     }
 
 -- 521 bytes decide
-pub decided : (bs : List ℕ) (v : Verdict) → Judged bs v → Decided bs v
-decided bs (WellFormed n) j rest h =
-    absurd (omega (arith, j.0.0, submission_short (whole_words bs) j.0.1, length-words bs))
-decided bs (Refused e) (p, is, b) rest h =
-    let w = words_front bs rest in
-    let long = length-words (bs ++ rest) in (
+pub read_decided : (bs : List ℕ) (r : Result InputWords Refusal) → ReadAs bs r → ReadDecided bs r
+read_decided bs (Ok w) a rest h = absurd (too_long bs h a.0)
+read_decided bs (Err e) (p, is, b) rest h =
+    let w = words_front bs rest in (
       p,
       is,
       record {
-        none = λ a. omega (arith, a.0, submission_short (whole_words (bs ++ rest)) a.1, length-append bs rest);
+        none = λ a. too_long (bs ++ rest) (omega (arith, length-append bs rest)) a;
         from = b.from;
-        sound = subst (λ ws. Sound ws (p - 1)) (sym w.1) (sound_front (whole_words bs) w.0 (p - 1) (inl (omega (arith, length-words bs))) b.sound);
+        sound = subst (λ ws. Sound ws (p - 1)) (sym w.1) (sound_front (whole_words bs) w.0 (p - 1) (omega (arith, length-words bs)) b.sound);
       },
     )
 
--- a verdict, which 521 bytes decide
-pub record Given (bs : List ℕ) (v : Verdict) : Type 0 where
-  pub judged : Judged bs v
-  pub decided : Decided bs v
-
-given : (bs : List ℕ) (v : Verdict) → Judged bs v → Given bs v
-given bs v j = record { judged = j; decided = decided bs v j }
-
--- the first n words, all there are or 130, decide
-module _ (bs : List ℕ) (n : ℕ) (within : n ≤ length bs / 4) (enough : (130 ≤ n) ⊎ (length bs / 4 ≤ n)) where
+-- vs, the first 130 words, decide
+module _ (bs vs : List ℕ) (cut : vs ≡ take 130 (whole_words bs)) where
   abbrev ws : List ℕ
   ws = whole_words bs
 
-  long : length (take n ws) ≡ n
-  long = length-take-le n ws (omega (arith, length-words bs))
+  every : length ws ≤ 130 → vs ≡ ws
+  every h = cut ∙ take_all 130 ws h
 
-  front_sound : (m : ℕ) → Sound (take n ws) m → Sound ws m
-  front_sound m s =
-      let which : (130 ≤ length (take n ws)) ⊎ (drop n ws ≡ []) = ⊎_elim (λ h. inl (omega (arith, long))) (λ h. inr (drop_all n ws (omega (arith, length-words bs)))) enough in
-      subst (λ v. Sound v m) (take-append-drop n ws) (sound_front (take n ws) (drop n ws) m which s)
+  front_sound : (m : ℕ) → Sound vs m → Sound ws m
+  front_sound m s = ⊎_elim
+      (λ h. subst (λ v. Sound v m) (ap (λ v. v ++ drop 130 ws) cut ∙ take-append-drop 130 ws) (sound_front vs (drop 130 ws) m (omega (arith, ap length cut, length-take-le 130 ws (omega arith))) s))
+      (λ h. subst (λ v. Sound v m) (every h) s)
+      (cases_lt 130 (length ws))
 
-  -- the whole input is its first n words
-  whole : Submission ws → take n ws ≡ ws
-  whole s = take_all n ws (⊎_elim (λ h. omega (arith, submission_short ws s)) (λ h. omega (arith, length-words bs)) enough)
-
-  pub broken_early : (e : Refusal) → RefusedForm (take n ws) e → Given bs (Refused e)
-  broken_early e (p, is, b) = given bs (Refused e) (
+  pub broken_early : (e : Refusal) → RefusedForm vs e → RefusedBytes bs e
+  broken_early e (p, is, b) = (
     p,
     is,
     record {
-      none = λ a. b.none (subst Submission (sym (whole a.1)) a.1);
+      none = λ a. b.none (subst Submission (sym (every (submission_short ws a.1))) a.1);
       from = b.from;
       sound = front_sound (p - 1) b.sound;
     },
   )
 
-  pub broken_late : Submission (take n ws) → 4 * n < length bs → Given bs (Refused (Form (n + 1)))
-  broken_late s more = given bs (Refused (Form (n + 1))) (
-    n + 1,
+  pub broken_late : Submission vs → 4 * length vs < length bs → RefusedBytes bs (Form (length vs + 1))
+  broken_late s more = (
+    length vs + 1,
     refl,
     record {
-      none = λ a. ⊎_elim (λ h. omega (arith, a.0, submission_short ws a.1, length-words bs)) (λ h. omega (arith, a.0)) enough;
+      none = λ a. omega (arith, a.0, ap length (every (submission_short ws a.1)), length-words bs);
       from = omega arith;
-      sound = front_sound (n + 1 - 1) (record {
-        within = omega (arith, long);
-        begins = (s.0, [], s.1, sym s.2 ∙ sym (take_all (n + 1 - 1) (take n ws) (omega (arith, long))) ∙ sym (append-nil (take (n + 1 - 1) (take n ws))));
-        longest = λ k le b. omega (arith, long);
+      sound = front_sound (length vs + 1 - 1) (record {
+        within = omega arith;
+        begins = subst Begins (sym (take_all (length vs + 1 - 1) vs (omega arith))) (begins_whole vs s);
+        longest = λ k le b. omega arith;
       });
     },
   )
 
-  pub well_formed : Submission (take n ws) → length bs ≤ 4 * n → (k : ℕ) → k ≡ length (decode (take n ws)) → Given bs (WellFormed k)
-  well_formed s all k e =
-      let same : take n ws ≡ ws = take_all n ws (omega (arith, length-words bs)) in
-      given bs (WellFormed k) ((omega arith, subst Submission same s), e ∙ ap (λ v. length (decode v)) same)
+  pub whole : Submission vs → length bs ≤ 4 * length vs → Accepted bs × (vs ≡ ws)
+  whole s all =
+      let same : vs ≡ ws = ⊎_elim
+      (λ h. absurd (omega (arith, ap length cut, length-take-le 130 ws (omega arith), length-words bs)))
+      (λ h. every h)
+      (cases_lt 130 (length ws)) in
+      ((omega (arith, ap length same, length-words bs), subst Submission same s), same)

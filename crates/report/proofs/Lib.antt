@@ -1,4 +1,2 @@
-pub mod Figures
 pub mod Bytes
 pub mod Judgements
-pub mod Readings

@@ -1,9 +1,9 @@
 -- What the bytes of an input decide.
-use Rattle.std.specs.Prelude.{◌≡◌, ℕ, ◌+◌, ◌-◌, ◌*◌, ◌%◌, ◌≤◌, List, [], ◌∷◌, ◌++◌, length}
+use Rattle.std.specs.Prelude.{◌≡◌, ℕ, ◌+◌, ◌-◌, ◌*◌, ◌%◌, ◌≤◌, List, [], ◌∷◌, ◌++◌, length, Ok, Err, Result}
+use Rattle.terms.specs.declared.refusal.Refusal.{Refusal}
 use Rattle.terms.specs.declared.refusal.Refusal.TheVariants.{Form}
 use Rattle.submission.specs.Submissions.{Submission, Sound, RefusedForm, decode}
-use Rattle.report.specs.declared.verdict.Verdict.{Verdict}
-use Rattle.report.specs.declared.verdict.Verdict.TheVariants.{WellFormed, Refused}
+use Rattle.report.specs.declared.outcome.WellFormed.{WellFormed}
 
 -- the words of the bytes, four bytes each, the highest first; a last word of fewer bytes is left out
 abbrev pub whole_words : List ℕ → List ℕ
@@ -28,16 +28,20 @@ pub record Broken (bs : List ℕ) (p : ℕ) : Type 0 where
   pub from : 1 ≤ p
   pub sound : Sound (whole_words bs) (p - 1)
 
+-- the refusal of bytes that are no submission
+abbrev pub RefusedBytes : List ℕ → Refusal → Type 0
+RefusedBytes bs e = (p : ℕ) × (e ≡ Form p) × Broken bs p
+
 -- the verdict on the bytes of an input
-abbrev pub Judged : List ℕ → Verdict → Type 0
-Judged bs (WellFormed n) = Accepted bs × (n ≡ length (decode (whole_words bs)))
-Judged bs (Refused e) = (p : ℕ) × (e ≡ Form p) × Broken bs p
+abbrev pub Judged : List ℕ → Result WellFormed Refusal → Type 0
+Judged bs (Ok form) = Accepted bs × (form.lines ≡ length (decode (whole_words bs)))
+Judged bs (Err e) = RefusedBytes bs e
 
 -- the verdict on whole words
-abbrev pub WordsJudged : List ℕ → Verdict → Type 0
-WordsJudged ws (WellFormed n) = Submission ws × (n ≡ length (decode ws))
-WordsJudged ws (Refused e) = RefusedForm ws e
+abbrev pub WordsJudged : List ℕ → Result WellFormed Refusal → Type 0
+WordsJudged ws (Ok form) = Submission ws × (form.lines ≡ length (decode ws))
+WordsJudged ws (Err e) = RefusedForm ws e
 
 -- 521 bytes decide, whatever follows them
-abbrev pub Decided : List ℕ → Verdict → Type 0
+abbrev pub Decided : List ℕ → Result WellFormed Refusal → Type 0
 Decided bs v = (rest : List ℕ) → 521 ≤ length bs → Judged (bs ++ rest) v

@@ -1,22 +1,18 @@
 -- What the bytes of an input are read as.
-use Rattle.std.specs.Prelude.{◌≡◌, ℕ, ◌/◌, ◌≤◌, min, List, ◌++◌, length, take, Ok, Err, Result}
+use Rattle.std.specs.Prelude.{◌≡◌, ℕ, ◌≤◌, List, ◌++◌, length, take, Ok, Err, Result}
 use Rattle.terms.specs.declared.refusal.Refusal.{Refusal}
-use Rattle.terms.specs.declared.refusal.Refusal.TheVariants.{Form}
+use Rattle.terms.specs.declared.table.Table.{Table}
+use Rattle.terms.specs.Tables.{held}
 use Rattle.report.specs.declared.input.InputWords.{InputWords}
-use Rattle.report.specs.Inputs.{whole_words, Accepted, Broken}
-
--- the refusal of bytes that are no submission
-abbrev pub RefusedBytes : List ℕ → Refusal → Type 0
-RefusedBytes bs e = (p : ℕ) × (e ≡ Form p) × Broken bs p
+use Rattle.report.specs.Inputs.{whole_words, Accepted, RefusedBytes}
 
 -- the words that were read
 abbrev pub words_in : InputWords → List ℕ
-words_in w = take w.count w.words
+words_in w = held w.words
 
--- w holds the whole words at the front of the bytes, 130 at most
-pub record FrontOf (bs : List ℕ) (w : InputWords) : Type 0 where
-  pub count : w.count ≡ min (length bs / 4) 130
-  pub words : words_in w ≡ take w.count (whole_words bs)
+-- the table holds the whole words at the front of the bytes, 130 at most
+abbrev pub FrontOf : List ℕ → Table ℕ 130 → Type 0
+FrontOf bs t = held t ≡ take 130 (whole_words bs)
 
 -- what the bytes are read as: their words if they are a submission, else a refusal
 abbrev pub ReadAs : List ℕ → Result InputWords Refusal → Type 0

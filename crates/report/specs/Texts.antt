@@ -1,44 +1,56 @@
--- The text of a verdict.
-use Rattle.std.specs.Prelude.{◌≡◌, ℕ, ◌<◌, List, [], ◌∷◌, ◌++◌, length, take, drop, Ok, Err, codes, decimal, Result}
+-- The text of a line.
+use Rattle.std.specs.Prelude.{◌≡◌, ℕ, ◌<◌, List, [], ◌∷◌, ◌++◌, length, drop, Ok, Err, codes, decimal, Result}
+use Rattle.std.specs.List.{flat_map}
 use Rattle.terms.specs.Refusals.{fields_of}
 use Rattle.terms.specs.declared.refusal.Fields.{Fields}
 use Rattle.terms.specs.declared.refusal.Refusal.{Refusal}
 use Rattle.terms.specs.declared.refusal.Refusal.TheVariants.{Unwritable}
-use Rattle.report.specs.declared.reply.Reply.{Reply}
-use Rattle.report.specs.declared.reply.Reply.TheVariants.{Accepted, Refused as TurnedDown}
-use Rattle.report.specs.declared.text.Text.{Text}
-use Rattle.report.specs.declared.verdict.Verdict.{Verdict}
-use Rattle.report.specs.declared.verdict.Verdict.TheVariants.{WellFormed, Refused}
-
--- what a text in the making holds
-abbrev pub held : Text → List ℕ
-held t = take t.len t.bytes
+use Rattle.report.specs.declared.outcome.WellFormed.{WellFormed}
+use Rattle.report.specs.declared.outcome.Accepted.{Accepted}
 
 -- a space and a number in decimal
 abbrev pub spaced : ℕ → List ℕ
 spaced n = 32 ∷ decimal n
 
+-- numbers in their order
+abbrev pub numbers_text : List ℕ → List ℕ
+numbers_text ns = flat_map spaced ns
+
 -- a refusal's number, place, month, limit and excess
 abbrev pub five_numbers : Fields → List ℕ
-five_numbers f =
-    spaced f.number ++ (spaced f.place ++ (spaced f.month ++ (spaced f.limit ++ spaced f.excess)))
+five_numbers f = numbers_text (f.number ∷ f.place ∷ f.month ∷ f.limit ∷ f.excess ∷ [])
 
--- the words of a verdict
-abbrev pub verdict_text : Verdict → List ℕ
-verdict_text (WellFormed n) = codes "well-formed" ++ spaced n
-verdict_text (Refused e) = codes "refused" ++ five_numbers (fields_of e)
+-- the words of a submission that is well-formed, of one that is accepted, and of a refusal
+abbrev pub well_formed_text : WellFormed → List ℕ
+well_formed_text w = codes "well-formed" ++ numbers_text (w.lines ∷ [])
+
+abbrev pub accepted_text : Accepted → List ℕ
+accepted_text a = codes "accepted" ++ numbers_text (a.first ∷ a.lines ∷ [])
+
+abbrev pub refusal_text : Refusal → List ℕ
+refusal_text e = codes "refused" ++ five_numbers (fields_of e)
+
+-- the words of an answer, where `words` are those of what is accepted
+abbrev pub text_of : {T : Type 0} → (T → List ℕ) → Result T Refusal → List ℕ
+text_of words (Ok x) = words x
+text_of words (Err e) = refusal_text e
 
 -- its line, which a newline ends
-abbrev pub line_text : Verdict → List ℕ
+abbrev pub line_of : {T : Type 0} → (T → List ℕ) → Result T Refusal → List ℕ
+line_of words r = text_of words r ++ 10 ∷ []
+
+-- the words of a verdict, and its line
+abbrev pub verdict_text : Result WellFormed Refusal → List ℕ
+verdict_text v = text_of well_formed_text v
+
+abbrev pub line_text : Result WellFormed Refusal → List ℕ
 line_text v = verdict_text v ++ 10 ∷ []
 
--- the words of a reply
-abbrev pub reply_text : Reply → List ℕ
-reply_text (Accepted first lines) = codes "accepted" ++ (spaced first ++ spaced lines)
-reply_text (TurnedDown e) = codes "refused" ++ five_numbers (fields_of e)
+-- the words of a reply, and its line
+abbrev pub reply_text : Result Accepted Refusal → List ℕ
+reply_text r = text_of accepted_text r
 
--- its line
-abbrev pub reply_line : Reply → List ℕ
+abbrev pub reply_line : Result Accepted Refusal → List ℕ
 reply_line r = reply_text r ++ 10 ∷ []
 
 -- the text is put at the front of a buffer that held `was` and now holds `is`, or the buffer is too short and stays as it was

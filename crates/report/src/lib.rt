@@ -8,16 +8,13 @@ use terms::Refusal;
 
 mod input;
 mod line;
-mod reply;
-mod reply_line;
+mod outcome;
 mod text;
-mod verdict;
 
-pub use input::{DECIDING_BYTES, InputWords, judge, read_submission};
-pub use line::{LONGEST_LINE, write_line};
-pub use reply::Reply;
-pub use reply_line::write_reply;
-pub use verdict::Verdict;
+pub use input::{DECIDING_BYTES, InputWords, judge, read_input, read_submission};
+pub use line::write_line;
+pub use outcome::{Accepted, WellFormed};
+pub use text::{LONGEST_LINE, Text, ToText};
 
 // Judges the bytes of an input and writes the verdict's line at the front of `out`; answers how many bytes that is.
 // Of an input longer than `DECIDING_BYTES`, so many of its first bytes are enough.
@@ -26,8 +23,7 @@ pub fn answer(bytes: &[u8], out: &mut [u8]) -> Result<usize, Refusal>
     ensures room { 128 ≤ length out.old → is_ok result ≡ true }
     ensures within { IfOk result (λ n. n ≤ length out.new) }
 {
-    let verdict = judge(bytes);
-    write_line(verdict, out)
+    write_line(judge(bytes), out)
 }
 
 #[cfg(test)]

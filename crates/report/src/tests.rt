@@ -1,4 +1,5 @@
-use crate::{Reply, answer, read_submission, write_reply};
+use crate::{Accepted, LONGEST_LINE, answer, read_input, read_submission, write_line};
+use std::test::Fail;
 use terms::Refusal;
 
 // The worked submission: one line.
@@ -7,11 +8,8 @@ const WORKED: &[u8] =
 
 // Whether the input is answered by this line.
 fn answers(input: &[u8], line: &[u8]) -> bool {
-    let mut out = [0; 128];
-    match answer(input, &mut out) {
-        Ok(len) if len == line.len() && len <= 128 => &out[0..len] == line,
-        _ => false,
-    }
+    let mut out = [0; LONGEST_LINE];
+    answer(input, &mut out) == Ok(line.len()) && out.starts_with(line)
 }
 
 #[test]
@@ -34,43 +32,36 @@ const WORKED_WORDS: &[u32] = &[
 ];
 
 // Whether the reply's line is this one.
-fn says(reply: Reply, line: &[u8]) -> bool {
-    let mut out = [0; 128];
-    match write_reply(reply, &mut out) {
-        Ok(len) if len == line.len() && len <= 128 => &out[0..len] == line,
-        _ => false,
-    }
+fn says(reply: Result<Accepted, Refusal>, line: &[u8]) -> bool {
+    let mut out = [0; LONGEST_LINE];
+    write_line(reply, &mut out) == Ok(line.len()) && out.starts_with(line)
 }
 
 #[test]
 fn replies_and_their_lines(rt: HostRuntime) {
-    assert!(rt; says(Reply::Accepted { first: 1, lines: 1 }, b"accepted 1 1\n"));
+    assert!(rt; says(Ok(Accepted { first: 1, lines: 1 }), b"accepted 1 1\n"));
     assert!(rt;
         says(
-            Reply::Accepted {
+            Ok(Accepted {
                 first: 4294967295,
                 lines: 16,
-            },
+            }),
             b"accepted 4294967295 16\n",
         )
     );
     assert!(rt;
         says(
-            Reply::Refused {
-                refusal: Refusal::BelowFloor { place: 1 },
-            },
+            Err(Refusal::BelowFloor { place: 1 }),
             b"refused 9 1 0 0 0\n",
         )
     );
     assert!(rt;
         says(
-            Reply::Refused {
-                refusal: Refusal::LimitPassed {
-                    month: 12,
-                    limit: 4294967295,
-                    excess: 18446744073709551615,
-                },
-            },
+            Err(Refusal::LimitPassed {
+                month: 12,
+                limit: 4294967295,
+                excess: 18446744073709551615,
+            }),
             b"refused 13 0 12 4294967295 18446744073709551615\n",
         )
     );
@@ -78,21 +69,23 @@ fn replies_and_their_lines(rt: HostRuntime) {
 
 // Whether the bytes break the form at this place.
 fn breaks(bytes: &[u8], place: usize) -> bool {
-    match read_submission(bytes) {
-        Err(Refusal::Form { place: found }) => found == place,
-        _ => false,
-    }
+    read_submission(bytes).is_err_and(|refusal| refusal == Refusal::Form { place })
 }
 
 #[test]
-fn inputs_and_their_words(rt: HostRuntime) {
-    match read_submission(WORKED) {
-        Ok(input) => assert!(rt; input.as_slice() == WORKED_WORDS),
-        Err(_) => assert!(rt; false),
-    }
+fn inputs_and_their_words(rt: HostRuntime) -> Result<(), Fail> {
+    assert!(rt; read_submission(WORKED)?.as_slice() == WORKED_WORDS);
     assert!(rt; breaks(b"", 1));
     assert!(rt; breaks(b"\x10", 1));
     assert!(rt; breaks(b"\x10\x00\x00\x01\x20", 2));
     assert!(rt; breaks(b"\x10\x00\x00\x01\x30\x00\x00\x00\x20", 2));
     assert!(rt; breaks(&[0x10; 521], 1));
+    Ok(())
+}
+
+#[test]
+fn inputs_up_to_the_bytes_that_decide(rt: HostRuntime) -> Result<(), Fail> {
+    assert!(rt; read_input(WORKED)?.as_slice() == WORKED);
+    assert!(rt; read_input(&[0x10; 522][..])?.as_slice() == &[0x10; 521][..]);
+    Ok(())
 }

@@ -1,6 +1,6 @@
 -- What the reader keeps.
-use Rattle.std.proofs.Common.{◌≡◌, ℕ, suc, ◌+◌, ◌-◌, ◌/◌, ◌<◌, List, ◌∷◌, length, get_or, take, drop, sym, refl, ap, ◌∙◌, arith, lit<, length-drop, get_or-drop}
-use Rattle.std.proofs.lemmas.List.{drop-drop, get_or-take}
+use Rattle.std.proofs.Common.{◌≡◌, ℕ, suc, ◌+◌, ◌-◌, ◌/◌, ◌<◌, ◌≤◌, List, ◌∷◌, length, get_or, take, drop, sym, refl, ap, ◌∙◌, arith, lit<, length-drop, get_or-drop}
+use Rattle.std.proofs.lemmas.List.{drop-drop, get_or-take, take-take}
 use Rattle.submission.specs.Words.{payload, words_of, line_of}
 use Rattle.submission.specs.Submissions.{Submission, lines_of}
 use Rattle.submission.specs.Reading.{Ready, Opened, Ended, Handed}
@@ -57,3 +57,8 @@ module _ (ws : List ℕ) (at : ℕ) (room : at + 8 < length ws) where
         fits = λ r. line-fits vs;
         ready = λ r. record { whole = r.whole; seam = omega (arith, r.seam); inside = room };
       }
+
+-- the first eight of the words that are left are handed out
+pub handed-front : (ws : List ℕ) (at : ℕ) (left vs : List ℕ) → left ≡ take (length ws - 1 - at) (drop at ws) → length left ≡ length ws - 1 - at → 8 ≤ length left → vs ≡ take 8 left → Handed ws at (at + 8) vs (at + 1)
+handed-front ws at left vs e n enough cut =
+    handed ws at (omega arith) vs (at + 1) (cut ∙ ap (take 8) e ∙ take-take 8 (length ws - 1 - at) (drop at ws) (omega arith)) refl

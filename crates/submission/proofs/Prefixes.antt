@@ -6,9 +6,10 @@ use Rattle.std.proofs.lemmas.List.Prefix.{front_fits, front_reads, front_from_re
 use Rattle.std.proofs.lemmas.List.{get_or-take, length-take-le}
 use Rattle.std.proofs.lemmas.Bool.{cases_lt, lt-ltb, le-ltb, le-leb, lt-leb, cond-true, cond-false}
 use Rattle.submission.specs.declared.line.Line.{Line}
-use Rattle.submission.specs.Words.{word, payload}
+use Rattle.submission.specs.Words.{word, payload, line_of}
 use Rattle.submission.specs.Submissions.{encode, Writable, Begins, Sound, Breaks}
 use Rattle.submission.specs.Places.{Stands}
+use Rattle.submission.proofs.Lines.{line-fits}
 use Rattle.submission.proofs.Forms.{count, Formed, formed_back, formed_forth, formed}
 
 -- the first j words of ws stand right
@@ -83,16 +84,13 @@ module _ (ws : List ℕ) (j : ℕ) (some : 0 < j) (in' : j ≤ length ws) (r : S
       let b = formed_back full full_formed in
       (b.0, drop (length (take j ws)) full, b.1, sym b.2 ∙ f)
 
+-- some line that can be written
 plain : Line
-plain = record { holder = 0; injection = 0; withdrawal = 0; first = 0; last = 0; power = 0; offer = 0; charge = 0 }
+plain = line_of []
 
 plain_writable : Writable (plain ∷ [])
 unfolding plain
-plain_writable = record {
-  some = omega arith;
-  few = omega arith;
-  fit = (record { holder = omega arith; injection = omega arith; withdrawal = omega arith; first = omega arith; last = omega arith; power = omega arith; offer = omega arith; charge = omega arith }, tt);
-}
+plain_writable = record { some = omega arith; few = omega arith; fit = (line-fits [], tt) }
 
 begins : (ws : List ℕ) (j : ℕ) → j ≤ length ws → StandTo ws j → Begins (take j ws)
 begins ws zero h r = (plain ∷ [], encode (plain ∷ []), plain_writable, refl)

@@ -1,6 +1,8 @@
 -- What the reader answers.
-use Rattle.std.specs.Prelude.{◌≡◌, ℕ, ◌+◌, ◌-◌, ◌/◌, ◌%◌, ◌<◌, List, [], ◌∷◌, length, take, drop}
+use Rattle.std.specs.Prelude.{◌≡◌, ℕ, ◌+◌, ◌-◌, ◌/◌, ◌%◌, ◌<◌, List, [], ◌∷◌, length, take, drop, Option, MatchOption}
 use Rattle.submission.specs.declared.line.Line.{Line}
+use Rattle.submission.specs.declared.reader.LineWords.{LineWords}
+use Rattle.submission.specs.declared.reader.Reader.{Reader}
 use Rattle.submission.specs.Words.{words_of, line_of, Fits}
 use Rattle.submission.specs.Submissions.{encode, Writable, Submission, lines_of, decode}
 
@@ -42,3 +44,8 @@ pub record Handed (ws : List ℕ) (at next : ℕ) (vs : List ℕ) (p : ℕ) : Ty
   pub same : Ready ws at → vs ≡ words_of (line_of vs)
   pub fits : Ready ws at → Fits (line_of vs)
   pub ready : Ready ws at → Ready ws next
+
+-- one step of a reader: it keeps its words, and hands out the next line, if one is left
+pub record Steps (before : Reader) (next : Option LineWords) (after : Reader) : Type 0 where
+  pub lent : after.words.now ≡ before.words.now
+  pub cases : MatchOption next (Ended before.words.now before.at after.at) (λ l. Handed before.words.now before.at after.at l.words.now l.place)

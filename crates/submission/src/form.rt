@@ -1,9 +1,22 @@
-ghost use Rattle.std.specs.Prelude.{◌≡◌, ◌+◌, ◌^◌, ◌<◌, Decides, MatchResult};
+ghost use Rattle.std.specs.Prelude.{◌≡◌, ◌+◌, ◌^◌, ◌<◌, Decides, MatchResult, slice_index};
+ghost use Rattle.submission.specs.Words.{payload as payload_of};
 ghost use Rattle.submission.specs.Places.{Stands};
 ghost use Rattle.submission.specs.Submissions.{Submission, RefusedForm};
 
-use crate::words::{Kind, kind_number, payload, payload_at};
+use crate::words::{Kind, payload};
 use terms::{MOST_LINES, Refusal};
+
+// The kinds of a line's eight words, in their order.
+const LINE_KINDS: [Kind; 8] = [
+    Kind::Holder,
+    Kind::Nodes,
+    Kind::Months,
+    Kind::Power,
+    Kind::OfferHigh,
+    Kind::OfferLow,
+    Kind::ChargeHigh,
+    Kind::ChargeLow,
+];
 
 // Whether `word` may stand at the index `at` of a submission of `lines` lines.
 fn may_stand(lines: u32, at: usize, word: u32) -> bool
@@ -11,15 +24,13 @@ fn may_stand(lines: u32, at: usize, word: u32) -> bool
     ensures { Decides result (Stands lines at word) }
 {
     let count = payload(word) as usize;
+    let closing = 8 * lines as usize + 1;
     if at == 0 {
-        return kind_number(word) == Kind::Opening.number() && count >= 1 && count <= MOST_LINES;
-    }
-    let place = at - 1;
-    let end = 8 * lines as usize;
-    if place < end {
-        kind_number(word) as usize == place % 8 + 2
+        Kind::Opening.is_of(word) && (1..=MOST_LINES).contains(&count)
+    } else if at < closing {
+        LINE_KINDS[(at - 1) % 8].is_of(word)
     } else {
-        place == end && kind_number(word) == Kind::Closing.number() && count == at
+        at == closing && Kind::Closing.is_of(word) && count == at
     }
 }
 
@@ -31,13 +42,21 @@ fn broken_at(index: usize) -> Refusal
     Refusal::Form { place: index + 1 }
 }
 
+// How many lines the opening word speaks of, 0 where it is missing.
+fn line_count(words: &[u32]) -> u32
+    ensures value { result ≡ payload_of (slice_index words.now 0) }
+    ensures bound { result < 2 ^ 28 }
+{
+    words.first().map_or(0, |&word| payload(word))
+}
+
 // Checks the whole form. A refusal has the place of the first word that breaks it, or one past the end.
 pub(crate) fn check_form(words: &[u32]) -> Result<(), Refusal>
     ensures { MatchResult result (λ _. Submission words.now) (λ e. RefusedForm words.now e) }
 {
-    let lines = payload_at(words, 0);
-    for (i, word) in words.iter().enumerate() {
-        if !may_stand(lines, i, *word) {
+    let lines = line_count(words);
+    for (i, &word) in words.iter().enumerate() {
+        if !may_stand(lines, i, word) {
             return Err(broken_at(i));
         }
     }

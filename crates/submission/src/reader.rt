@@ -1,17 +1,17 @@
-ghost use Rattle.std.specs.Prelude.{◌≡◌, ◌+◌, ◌-◌, ◌/◌, ◌≤◌, length, take, drop, MatchOption, MatchResult};
+ghost use Rattle.std.specs.Prelude.{◌≡◌, ◌-◌, length, take, drop, MatchResult};
+ghost use Rattle.std.specs.Iterator.{at_most};
 ghost use Rattle.submission.specs.Words.{line_of};
 ghost use Rattle.submission.specs.Submissions.{RefusedForm};
-ghost use Rattle.submission.specs.Reading.{ahead, Opened, Ended, Handed};
+ghost use Rattle.submission.specs.Reading.{ahead, Opened, Steps};
 
 use crate::form::check_form;
 use crate::line::Line;
-use crate::words::line_of;
 use terms::Refusal;
 
 // A line as its eight words, a part of the submission, with the place, from 1, of the first.
 #[derive(Clone, Copy)]
 pub struct LineWords<'a> {
-    words: &'a [u32],
+    words: &'a [u32; 8],
     place: usize,
 }
 
@@ -20,13 +20,14 @@ impl<'a> LineWords<'a> {
     pub fn line(&self) -> Line
         ensures { result ≡ line_of self.now.words.now }
     {
-        line_of(self.words)
+        Line::from(*self.words)
     }
 
     pub fn words(&self) -> &'a [u32]
         ensures { result.now ≡ self.now.words.now }
     {
-        self.words
+        let words = self.words;
+        words
     }
 
     pub fn place(&self) -> usize
@@ -52,43 +53,35 @@ impl<'a> Reader<'a> {
         Ok(Reader { words, at: 1 })
     }
 
-    // Hands out the next line, if one is left.
-    pub fn next(&mut self) -> Option<LineWords<'a>>
-        ensures lent { self.new.words.now ≡ self.old.words.now }
-        ensures cases { MatchOption result (Ended self.old.words.now self.old.at self.new.at)
-            (λ l. Handed self.old.words.now self.old.at self.new.at l.words.now l.place) }
-    {
-        if self.lines_left() == 0 {
-            return None;
-        }
-        let line = self.line_here();
-        self.at += 8;
-        Some(line)
-    }
-
     // How many lines are left.
     pub fn lines_left(&self) -> usize
         ensures { result ≡ length (ahead self.now.words.now self.now.at) }
     {
-        whole_lines(self.words.len(), self.at)
+        self.left().len() / 8
     }
 
-    // The eight words from here on, with their place.
-    fn line_here(&self) -> LineWords<'a>
-        requires { self.now.at + 8 ≤ length self.now.words.now }
-        ensures words { result.words.now ≡ take 8 (drop self.now.at self.now.words.now) }
-        ensures place { result.place ≡ self.now.at + 1 }
+    // The words from here on, up to the closing word.
+    fn left(&self) -> &'a [u32]
+        ensures words { result.now ≡ take (length self.now.words.now - 1 - self.now.at) (drop self.now.at self.now.words.now) }
+        ensures count { length result.now ≡ length self.now.words.now - 1 - self.now.at }
     {
-        let words = &self.words[self.at..self.at + 8];
-        let place = self.at + 1;
-        LineWords { words, place }
+        let closing = self.words.len().saturating_sub(1);
+        self.words.get(self.at..closing).unwrap_or(&[])
     }
 }
 
-// How many lines stand from the index `at` to the closing word, the last of `words` words.
-fn whole_lines(words: usize, at: usize) -> usize
-    ensures { result ≡ (words - 1 - at) / 8 }
-{
-    let closing = words.saturating_sub(1);
-    closing.saturating_sub(at) / 8
+// The lines that are left, one after another.
+impl<'a> Iterator for Reader<'a> {
+    type Item = LineWords<'a>;
+
+    ghost next_gives = { Steps };
+
+    ghost remaining = { λ reader. at_most (length (ahead reader.words.now reader.at)) };
+
+    fn next(&mut self) -> Option<LineWords<'a>> {
+        let words = self.left().first_chunk()?;
+        let place = self.at + 1;
+        self.at += 8;
+        Some(LineWords { words, place })
+    }
 }

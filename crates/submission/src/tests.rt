@@ -27,12 +27,11 @@ const LINE: Line = Line {
     charge: 148_800_000,
 };
 
-// The place where the form of these words breaks, or 0 for a submission.
-fn broken_at(words: &[u32]) -> usize {
-    match Reader::open(words) {
-        Ok(_) => 0,
-        Err(refusal) => refusal.fields().place,
-    }
+// The place where the form of these words breaks, if they are no submission.
+fn broken_at(words: &[u32]) -> Option<usize> {
+    Reader::open(words)
+        .err()
+        .map(|refusal| refusal.fields().place)
 }
 
 #[test]
@@ -51,38 +50,38 @@ fn the_worked_submission_reads(rt: HostRuntime) -> Result<(), Fail> {
 
 #[test]
 fn words_that_stop_early_break_one_past_their_end(rt: HostRuntime) {
-    for n in 0..10 {
-        assert_eq!(rt; broken_at(&WORKED[0..n]), n + 1);
+    // By length, since each turn reads a longer beginning.
+    for n in 0..WORKED.len() {
+        assert_eq!(rt; broken_at(&WORKED[..n]), Some(n + 1));
     }
-    assert_eq!(rt; broken_at(&WORKED), 0);
+    assert_eq!(rt; broken_at(&WORKED), None);
 }
 
 #[test]
 fn a_wrong_kind_breaks_at_its_word(rt: HostRuntime) {
-    for n in 0..10 {
+    // By index, since each turn changes one word of a copy.
+    for n in 0..WORKED.len() {
         let mut words = WORKED;
         words[n] ^= 0xa000_0000;
-        assert_eq!(rt; broken_at(&words), n + 1);
+        assert_eq!(rt; broken_at(&words), Some(n + 1));
     }
 }
 
 #[test]
 fn counts_and_trailing_words(rt: HostRuntime) {
     let [a, b, c, d, e, f, g, h, i, j] = WORKED;
-    assert_eq!(rt; broken_at(&[a, b, c, d, e, f, g, h, i, j, 0]), 11);
-    assert_eq!(rt; broken_at(&[a, b, c, d, e, f, g, h, i, j + 1]), 10);
-    assert_eq!(rt; broken_at(&[0x1000_0000, 0xf000_0001]), 1);
-    assert_eq!(rt; broken_at(&[0x1000_0011]), 1);
-    assert_eq!(rt; broken_at(&[0x1000_0010]), 2);
+    assert_eq!(rt; broken_at(&[a, b, c, d, e, f, g, h, i, j, 0]), Some(11));
+    assert_eq!(rt; broken_at(&[a, b, c, d, e, f, g, h, i, j + 1]), Some(10));
+    assert_eq!(rt; broken_at(&[0x1000_0000, 0xf000_0001]), Some(1));
+    assert_eq!(rt; broken_at(&[0x1000_0011]), Some(1));
+    assert_eq!(rt; broken_at(&[0x1000_0010]), Some(2));
 }
 
 #[test]
 fn a_line_is_written(rt: HostRuntime) -> Result<(), Fail> {
     let mut out = [7; 11];
     assert_eq!(rt; write(&[LINE], &mut out)?, 10);
-    for n in 0..10 {
-        assert_eq!(rt; out[n], WORKED[n]);
-    }
+    assert_eq!(rt; &out[..10], WORKED.as_slice());
     assert_eq!(rt; out[10], 7);
     Ok(())
 }

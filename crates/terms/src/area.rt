@@ -1,7 +1,9 @@
 ghost use Rattle.std.specs.Prelude.{◌≡◌, ◌<◌, ◌≤◌, MatchOption};
 
+use crate::ranges::AREAS;
+
 // An area of the market, 1 to 6 from north to south.
-#[derive(Clone, Copy)]
+#[derive(Clone, Copy, Debug, PartialEq, Eq)]
 pub struct Area {
     number: u32,
     ghost first: { 1 ≤ number },
@@ -9,11 +11,11 @@ pub struct Area {
 }
 
 impl Area {
-    // The area of this number, if there is one.
+    // The area of this number, if there is one. An Option and no TryFrom, since each caller refuses in its own words.
     pub fn new(number: u32) -> Option<Area>
         ensures { MatchOption result ((1 ≤ number) × (number ≤ 6) → ⊥) (λ a. a.number ≡ number) }
     {
-        if number < 1 || number > crate::AREAS {
+        if !(1..=AREAS).contains(&number) {
             return None;
         }
         Some(Area { number })

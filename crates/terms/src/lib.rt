@@ -1,10 +1,11 @@
-// The terms of the market: its refusals, ranges, areas and pairs of areas.
+// The terms of the market: its refusals, ranges, areas and pairs of areas, and tables of a fixed room.
 #![tactic(auto)]
 
 mod area;
 mod pair;
 mod ranges;
 mod refusal;
+mod table;
 
 pub use area::Area;
 pub use pair::Pair;
@@ -14,3 +15,7 @@ pub use ranges::{
     MOST_POWER, MOST_PRICE, MOST_REFERENCES, MOST_SERIAL, MOST_VALUE, PAIRS, ROWS,
 };
 pub use refusal::{Fields, Refusal};
+pub use table::Table;
+
+#[cfg(test)]
+mod tests;

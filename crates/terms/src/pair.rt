@@ -5,7 +5,7 @@ use crate::area::Area;
 mod numbers;
 
 // An injection area and another withdrawal area.
-#[derive(Clone, Copy)]
+#[derive(Clone, Copy, Debug, PartialEq, Eq)]
 pub struct Pair {
     injection: Area,
     withdrawal: Area,

@@ -1,19 +1,12 @@
-ghost use Rattle.std.specs.Prelude.{◌≡◌};
-ghost use Rattle.book.specs.Awards.{same_numbers};
+ghost use Rattle.std.specs.Prelude.{◌≡◌, Result};
+ghost use Rattle.terms.specs.declared.refusal.Refusal.{Refusal as Reason};
+ghost use Rattle.book.specs.Awards.{EndedAs};
 
-use super::{Award, AwardNumbers};
-
-impl AwardNumbers {
-    // Whether these are the same three numbers.
-    pub fn is(self, other: AwardNumbers) -> bool
-        ensures { result ≡ same_numbers self other }
-    {
-        self.book == other.book && (self.first == other.first && self.lines == other.lines)
-    }
-}
+use super::{Award, AwardNumbers, Returned};
+use terms::Refusal;
 
 impl Award {
-    // The award of an accepted proposal.
+    // The award of an accepted proposal. No `From`: only a book makes awards.
     pub(crate) fn of(numbers: AwardNumbers) -> Award
         ensures { result.numbers ≡ numbers }
     {
@@ -26,8 +19,20 @@ impl Award {
         self.numbers
     }
 
-    // The end of an award that a book took back.
-    pub(crate) fn spend(self) {
-        let Award { numbers: _ } = self;
+    // The end of an award where its book took it back; the award again, with the refusal, where it did not.
+    pub(crate) fn ended(self, taken: Result<(), Refusal>) -> Result<(), Returned>
+        ensures { EndedAs taken self result }
+    {
+        // By match: the award moves in each arm.
+        match taken {
+            Ok(()) => {
+                let Award { numbers: _ } = self;
+                Ok(())
+            }
+            Err(refusal) => Err(Returned {
+                refusal,
+                award: self,
+            }),
+        }
     }
 }

@@ -1,5 +1,5 @@
-ghost use Rattle.calendar.specs.Figures.{figures};
-ghost use Rattle.book.specs.Market.{market, Fixed};
+ghost use Rattle.std.specs.Prelude.{◌≡◌};
+ghost use Rattle.book.specs.Market.{market_of};
 ghost use Rattle.book.specs.Calls.{propose as proposing};
 ghost use Rattle.book.specs.Results.{Gives, Untouched, awarded};
 ghost use Rattle.book.specs.Views.{view};
@@ -15,8 +15,8 @@ use terms::Refusal;
 impl<S: FactorSource, R: UseRule> Book<S, R> {
     // Enters the lines of a submission as provisional rights, and answers the numbers of their award.
     pub(super) fn offer(&mut self, words: &[u32]) -> Result<AwardNumbers, Refusal>
-        ensures fixed { Fixed self.old.source self.old.rule self.old.calendar self.new.source self.new.rule self.new.calendar }
-        ensures gives { Gives awarded (proposing (market (S.FactorSource.means self.old.source) (R.UseRule.worst self.old.rule) (figures self.old.calendar)) (view self.old.ledger) words.now) result (view self.new.ledger) }
+        ensures fixed { self.new.basis ≡ self.old.basis }
+        ensures gives { Gives awarded (proposing (market_of S.FactorSource R.UseRule self.old.basis) (view self.old.ledger) words.now) result (view self.new.ledger) }
         ensures kept { Untouched result self.old.ledger self.new.ledger }
     {
         let reader = Reader::open(words)?;
@@ -28,7 +28,7 @@ impl<S: FactorSource, R: UseRule> Book<S, R> {
         self.ledger.check_room(lines)?;
         let mut after = self.ledger.rights;
         enter(&mut after, reader, self.ledger.next);
-        self.check_capacity(after.as_slice())?;
+        self.basis.check_capacity(&after)?;
         let award = AwardNumbers {
             book: self.ledger.number,
             first: self.ledger.next,

@@ -1,6 +1,5 @@
 ghost use Rattle.std.specs.Prelude.{◌≡◌};
-ghost use Rattle.calendar.specs.Figures.{figures};
-ghost use Rattle.book.specs.Market.{market};
+ghost use Rattle.book.specs.Market.{market_of};
 ghost use Rattle.book.specs.Questions.{statement as statement_answer, account as account_answer, load_asked};
 ghost use Rattle.book.specs.Views.{view};
 
@@ -26,11 +25,12 @@ impl<S: FactorSource, R: UseRule> Book<S, R> {
 
     // The load of a limit in a month, by all rights in the book, in millionths of a kilowatt.
     pub fn load(&self, month: u32, limit: u32) -> Result<i64, Refusal>
-        ensures { result ≡ load_asked (market (S.FactorSource.means self.now.source) (R.UseRule.worst self.now.rule) (figures self.now.calendar)) (view self.now.ledger) month limit }
+        ensures { result ≡ load_asked (market_of S.FactorSource R.UseRule self.now.basis) (view self.now.ledger) month limit }
     {
-        if month < 1 || month > MONTHS || limit < 1 || limit > self.calendar.limit_count() {
+        let limits = 1..=self.basis.calendar.limit_count();
+        if !(1..=MONTHS).contains(&month) || !limits.contains(&limit) {
             return Err(Refusal::Unknown);
         }
-        Ok(self.load_of(month, limit, self.ledger.rights.as_slice()))
+        Ok(self.basis.load_of(month, limit, &self.ledger.rights))
     }
 }

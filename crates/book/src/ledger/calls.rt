@@ -1,5 +1,7 @@
-ghost use Rattle.std.specs.Prelude.{◌≡◌, ◌+◌, ◌-◌, ◌^◌, ◌<◌};
-ghost use Rattle.book.specs.States.{fresh, opened, with_rights, with_balance, balance as balance_of};
+ghost use Rattle.std.specs.Prelude.{◌≡◌, ◌+◌, ◌-◌, ◌^◌, ◌<◌, OnOk};
+ghost use Rattle.book.specs.States.{fresh, opened, closed, with_rights, with_balance, balance as balance_of};
+ghost use Rattle.book.specs.Checks.{award_check};
+ghost use Rattle.book.specs.Refusing.{told};
 ghost use Rattle.book.specs.Calls.Answer.{Confirmed, Struck, DebtLeft, Balance, Day};
 ghost use Rattle.book.specs.Calls.{confirm as confirming, strike as striking, pay as paying, deposit as depositing, withdraw as withdrawing, set_day};
 ghost use Rattle.book.specs.Results.{Gives, Untouched};
@@ -21,7 +23,7 @@ impl Ledger {
             next: 1,
             pending: None,
             rights: Rights::none(),
-            balances: [0; 32],
+            balances: [0; HOLDERS],
         }
     }
 
@@ -40,10 +42,7 @@ impl Ledger {
         ensures gives { Gives Balance (depositing (view self.old) holder amount) result (view self.new) }
         ensures kept { Untouched result self.old self.new }
     {
-        if holder >= 32 {
-            return Err(Refusal::Unknown);
-        }
-        let balance = self.balances[holder as usize];
+        let balance = self.balance(holder)?;
         if amount == 0 || amount > MOST_BALANCE.saturating_sub(balance) {
             return Err(Refusal::BadAmount);
         }
@@ -55,16 +54,13 @@ impl Ledger {
         ensures gives { Gives Balance (withdrawing (view self.old) holder amount) result (view self.new) }
         ensures kept { Untouched result self.old self.new }
     {
-        if holder >= 32 {
-            return Err(Refusal::Unknown);
-        }
+        let balance = self.balance(holder)?;
         let free = self.free_part(holder);
         if amount == 0 || amount > free {
             return Err(Refusal::BadAmount);
         }
-        let balance = self.balances[holder as usize] - amount;
-        self.balances[holder as usize] = balance;
-        Ok(balance)
+        self.balances[holder as usize] = balance - amount;
+        Ok(balance - amount)
     }
 
     // Puts the rights of a proposal in the place of those before, and opens its award.
@@ -85,34 +81,42 @@ impl Ledger {
         ensures { view self.new ≡ with_balance (with_rights (view self.old) (rights remaining)) holder (balance_of (view self.old) holder - amount) }
     {
         self.rights = remaining;
+        // By its index: what `get_mut` promises does not reach the table as a whole.
         let holder = holder as usize;
         if holder < HOLDERS {
             self.balances[holder] = self.balances[holder].saturating_sub(amount);
         }
     }
 
-    // Takes the open award back and puts its rights in force.
-    pub(crate) fn confirm(&mut self, book: u32, first: u32, lines: u32) -> Result<(), Refusal>
-        ensures gives { Gives (λ _. Confirmed) (confirming (view self.old) book first lines) result (view self.new) }
+    // Takes the open award back, if it has these numbers; its rights stay as they are.
+    fn take_back(&mut self, award: AwardNumbers) -> Result<(), Refusal>
+        ensures answer { result ≡ told (award_check (view self.old) award.book award.first award.lines) }
+        ensures taken { OnOk result (view self.new ≡ closed (view self.old) (view self.old).rights) }
         ensures kept { Untouched result self.old self.new }
     {
-        if !self.is_open(book, first, lines) {
+        if !self.is_open(award) {
             return Err(Refusal::NoSuchAward);
         }
         self.pending = None;
+        Ok(())
+    }
+
+    // Takes the open award back and puts its rights in force.
+    pub(crate) fn confirm(&mut self, award: AwardNumbers) -> Result<(), Refusal>
+        ensures gives { Gives (λ _. Confirmed) (confirming (view self.old) award.book award.first award.lines) result (view self.new) }
+        ensures kept { Untouched result self.old self.new }
+    {
+        self.take_back(award)?;
         self.rights.put_in_force();
         Ok(())
     }
 
-    // Takes the open award back and removes its rights.
-    pub(crate) fn strike(&mut self, book: u32, first: u32, lines: u32) -> Result<(), Refusal>
-        ensures gives { Gives (λ _. Struck) (striking (view self.old) book first lines) result (view self.new) }
+    // Takes the open award back and removes its rights. It differs from `confirm` in one step, which a closure would hide.
+    pub(crate) fn strike(&mut self, award: AwardNumbers) -> Result<(), Refusal>
+        ensures gives { Gives (λ _. Struck) (striking (view self.old) award.book award.first award.lines) result (view self.new) }
         ensures kept { Untouched result self.old self.new }
     {
-        if !self.is_open(book, first, lines) {
-            return Err(Refusal::NoSuchAward);
-        }
-        self.pending = None;
+        self.take_back(award)?;
         self.rights.keep_in_force();
         Ok(())
     }
@@ -122,13 +126,7 @@ impl Ledger {
         ensures gives { Gives DebtLeft (paying (view self.old) serial amount) result (view self.new) }
         ensures kept { Untouched result self.old self.new }
     {
-        let Some(at) = self.rights.find(serial) else {
-            return Err(Refusal::Unknown);
-        };
-        let right = self.rights.get(at);
-        if !right.in_force {
-            return Err(Refusal::Unknown);
-        }
+        let (at, right) = self.rights.in_force_at(serial)?;
         let debt = right.debt();
         if amount == 0 || amount > debt {
             return Err(Refusal::BadAmount);

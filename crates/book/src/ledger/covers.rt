@@ -8,11 +8,16 @@ ghost use Rattle.book.specs.Views.{view};
 
 use super::Ledger;
 use crate::right::guarantee;
+use std::array;
 use submission::Line;
-use terms::{MOST_SERIAL, ROWS, Refusal};
+use terms::{HOLDERS, MOST_SERIAL, ROWS, Refusal};
 
 // Whether the free part that is left to the line's holder covers the line's guarantee, which is then taken from it.
-pub(crate) fn check_cover(free: &mut [u64; 32], place: usize, line: &Line) -> Result<(), Refusal>
+pub(crate) fn check_cover(
+    free: &mut [u64; HOLDERS],
+    place: usize,
+    line: &Line,
+) -> Result<(), Refusal>
     requires { line.now.holder < 32 }
     ensures answer { result ≡ told (refuse_if (nat_lt (slice_index free.old line.now.holder) (guarantee_due line.now)) (Uncovered place)) }
     ensures left { OnOk result (free.new ≡ slice_set free.old line.now.holder (slice_index free.old line.now.holder - guarantee_due line.now)) }
@@ -28,14 +33,10 @@ pub(crate) fn check_cover(free: &mut [u64; 32], place: usize, line: &Line) -> Re
 
 impl Ledger {
     // The free parts of all holders.
-    pub(crate) fn free_parts(&self) -> [u64; 32]
+    pub(crate) fn free_parts(&self) -> [u64; HOLDERS]
         ensures { Left (view self.now) [] result }
     {
-        let mut free = [0; 32];
-        for holder in 0..32 {
-            free[holder as usize] = self.free_part(holder);
-        }
-        free
+        array::from_fn(|holder| self.free_part(holder as u32))
     }
 
     // Whether rows and serials suffice for so many lines.

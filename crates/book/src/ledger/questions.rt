@@ -1,12 +1,14 @@
-ghost use Rattle.std.specs.Prelude.{◌≡◌, ◌-◌, ◌<◌};
+ghost use Rattle.std.specs.Prelude.{◌≡◌, ◌-◌, ◌<◌, ◌≤◌, MatchResult};
+ghost use Rattle.terms.specs.declared.refusal.Refusal.TheVariants.{Unknown};
 ghost use Rattle.book.specs.Rights.{held_of};
-ghost use Rattle.book.specs.States.{free_part};
+ghost use Rattle.book.specs.States.{free_part, balance as balance_of};
 ghost use Rattle.book.specs.Checks.{is_open};
 ghost use Rattle.book.specs.Questions.{statement_of, statement as statement_answer, account as account_answer};
 ghost use Rattle.book.specs.Views.{view};
 
 use super::Ledger;
 use crate::answers::{Account, Statement};
+use crate::award::AwardNumbers;
 use crate::right::Right;
 use terms::Refusal;
 
@@ -23,19 +25,31 @@ fn less_held(rights: &[Right], balance: u64, holder: u32) -> u64
     free
 }
 
-// What is charged, paid, owed and held on a right.
-fn statement_on(right: Right) -> Statement
-    ensures { result ≡ statement_of right }
-{
-    Statement {
-        charge: if right.in_force { right.line.charge } else { 0 },
-        paid: right.paid,
-        debt: right.debt(),
-        guarantee: right.held(),
+impl From<Right> for Statement {
+    ghost from_gives = { λ right statement. statement ≡ statement_of right };
+
+    // What is charged, paid, owed and held on a right.
+    fn from(right: Right) -> Statement {
+        Statement {
+            charge: right.charge(),
+            paid: right.paid(),
+            debt: right.debt(),
+            guarantee: right.held(),
+        }
     }
 }
 
 impl Ledger {
+    // A holder's balance.
+    pub(crate) fn balance(&self, holder: u32) -> Result<u64, Refusal>
+        ensures { MatchResult result (λ n. (holder < 32) × (n ≡ balance_of (view self.now) holder)) (λ e. (e ≡ Unknown) × (32 ≤ holder)) }
+    {
+        self.balances
+            .get(holder as usize)
+            .copied()
+            .ok_or(Refusal::Unknown)
+    }
+
     // What of a holder's balance no guarantee holds.
     pub(crate) fn free_part(&self, holder: u32) -> u64
         requires { holder < 32 }
@@ -49,24 +63,19 @@ impl Ledger {
     }
 
     // Whether the three numbers are those of the award that is open.
-    pub(crate) fn is_open(&self, book: u32, first: u32, lines: u32) -> bool
-        ensures { result ≡ is_open (view self.now).number book first lines (view self.now).pending }
+    pub(crate) fn is_open(&self, award: AwardNumbers) -> bool
+        ensures { result ≡ is_open (view self.now).number award.book award.first award.lines (view self.now).pending }
     {
-        match self.pending {
-            Some(award) => book == self.number && (first == award.first && lines == award.lines),
-            None => false,
-        }
+        self.pending
+            .is_some_and(|open| award == open.numbers(self.number))
     }
 
     // A holder's balance and free part.
     pub(crate) fn account(&self, holder: u32) -> Result<Account, Refusal>
         ensures { result ≡ account_answer (view self.now) holder }
     {
-        if holder >= 32 {
-            return Err(Refusal::Unknown);
-        }
         Ok(Account {
-            balance: self.balances[holder as usize],
+            balance: self.balance(holder)?,
             free: self.free_part(holder),
         })
     }
@@ -75,9 +84,9 @@ impl Ledger {
     pub(crate) fn statement(&self, serial: u32) -> Result<Statement, Refusal>
         ensures { result ≡ statement_answer (view self.now) serial }
     {
-        match self.rights.find(serial) {
-            Some(at) => Ok(statement_on(self.rights.get(at))),
-            None => Err(Refusal::Unknown),
-        }
+        self.rights
+            .right(serial)
+            .map(Statement::from)
+            .ok_or(Refusal::Unknown)
     }
 }

@@ -1,41 +1,36 @@
-ghost use Rattle.std.specs.Prelude.{◌≡◌, MatchResult};
+ghost use Rattle.std.specs.Prelude.{◌≡◌};
 ghost use Rattle.calendar.specs.Figures.{figures, limit_figures};
 ghost use Rattle.calendar.specs.Calls.{AddsLimit, AddsNode, empty_figures, LimitFits, NumberedLimit, SetsHours, SetsPayDay, SetsPrice, SetsRelation};
+ghost use Rattle.calendar.specs.Questions.{AnswersOne};
 
 use super::doors::month_place;
 use super::{Calendar, Limit, Month, Node};
 use crate::kinds::{Direction, LimitKind};
 use crate::parts::{Capacity, Hours, PayDay, Price, RelationRow};
-use terms::{Area, Refusal};
+use terms::{Area, Refusal, Table};
 
 impl Calendar {
     // No nodes, no limits, and months without hours and pay days.
     pub fn new() -> Calendar
         ensures { figures result ≡ empty_figures }
     {
-        // rows beyond the counts say nothing, in area 1
+        // what fills the rows beyond the nodes and limits says nothing, in area 1
         let area = Area::new(1).unwrap();
         let node = Node {
             area,
-            prices: [Price::NONE; 12],
+            prices: [Price::default(); 12],
         };
         let limit = Limit {
             kind: LimitKind::Export,
             area,
             direction: Direction::Southward,
-            values: [Capacity::NONE; 12],
-            row: RelationRow::NONE,
-        };
-        let month = Month {
-            hours: Hours::NONE,
-            pay_day: PayDay::NONE,
+            values: [Capacity::default(); 12],
+            row: RelationRow::default(),
         };
         Calendar {
-            nodes: [node; 64],
-            node_count: 0,
-            limits: [limit; 48],
-            limit_count: 0,
-            months: [month; 12],
+            nodes: Table::new(node),
+            limits: Table::new(limit),
+            months: [Month::default(); 12],
         }
     }
 
@@ -44,29 +39,28 @@ impl Calendar {
         ensures { AddsNode self.old area result self.new }
     {
         let area = Area::new(area).ok_or(Refusal::CalendarValue)?;
-        let place = self.node_rows();
-        if place >= terms::MOST_NODES as usize {
-            return Err(Refusal::CalendarFull);
-        }
-        self.push_node(Node {
+        let node = self.node_count();
+        let added = Node {
             area,
-            prices: [Price::NONE; 12],
-        });
-        Ok(place as u32)
+            prices: [Price::default(); 12],
+        };
+        self.nodes.push(added).map_err(|_| Refusal::CalendarFull)?;
+        Ok(node)
     }
 
     // Sets a node's price in a month.
     pub fn set_price(&mut self, node: u32, month: u32, price: i64) -> Result<(), Refusal>
         ensures { SetsPrice self.old node month price result self.new }
     {
-        let place = self.node_place(node)?;
+        let mut changed = self.node(node)?;
         let month = month_place(month)?;
-        let price = Price::new(price)?;
-        self.put_price(place, month, price);
+        changed.prices[month] = Price::try_from(price)?;
+        self.nodes.set(node as usize, changed).unwrap();
         Ok(())
     }
 
     // Adds a limit with these monthly values in kilowatts and no marks yet, and answers its number.
+    // Kind and direction are plain numbers, so that the calendar refuses one that names none.
     pub fn add_limit(
         &mut self,
         kind: u32,
@@ -76,13 +70,9 @@ impl Calendar {
     ) -> Result<u32, Refusal>
         ensures { AddsLimit self.old kind area direction values result self.new }
     {
-        let limit = Limit::numbered(kind, area, direction, &values)?;
-        let place = self.limit_rows();
-        if place >= terms::MOST_LIMITS as usize {
-            return Err(Refusal::CalendarFull);
-        }
-        self.push_limit(limit);
-        Ok(place as u32 + 1)
+        let added = Limit::numbered(kind, area, direction, values)?;
+        self.limits.push(added).map_err(|_| Refusal::CalendarFull)?;
+        Ok(self.limit_count())
     }
 
     // Sets the hours of a month.
@@ -90,8 +80,7 @@ impl Calendar {
         ensures { SetsHours self.old month hours result self.new }
     {
         let place = month_place(month)?;
-        let hours = Hours::new(hours)?;
-        self.put_hours(place, hours);
+        self.months[place].hours = Hours::try_from(hours)?;
         Ok(())
     }
 
@@ -100,8 +89,7 @@ impl Calendar {
         ensures { SetsPayDay self.old month day result self.new }
     {
         let place = month_place(month)?;
-        let pay_day = PayDay::new(day)?;
-        self.put_pay_day(place, pay_day);
+        self.months[place].pay_day = PayDay::try_from(day)?;
         Ok(())
     }
 
@@ -109,24 +97,24 @@ impl Calendar {
     pub fn set_relation(&mut self, limit: u32, row: u32) -> Result<(), Refusal>
         ensures { SetsRelation self.old limit row result self.new }
     {
-        let place = self.limit_place(limit)?;
-        let row = RelationRow::new(row)?;
-        self.put_row(place, row);
+        let mut changed = self.limit(limit)?;
+        changed.row = RelationRow::try_from(row)?;
+        self.limits.set(limit as usize - 1, changed).unwrap();
         Ok(())
     }
 }
 
 impl Limit {
     // The limit of these numbers, with no marks.
-    fn numbered(kind: u32, area: u32, direction: u32, values: &[u32; 12]) -> Result<Limit, Refusal>
-        ensures { MatchResult result (λ l. LimitFits kind area direction values.now × NumberedLimit kind area direction values.now (limit_figures l)) (λ e. (e ≡ Refusal.CalendarValue) × (LimitFits kind area direction values.now → ⊥)) }
+    fn numbered(kind: u32, area: u32, direction: u32, values: [u32; 12]) -> Result<Limit, Refusal>
+        ensures { AnswersOne (LimitFits kind area direction values) (λ l. NumberedLimit kind area direction values (limit_figures l)) result }
     {
         Ok(Limit {
-            kind: LimitKind::numbered(kind)?,
+            kind: LimitKind::try_from(kind)?,
             area: Area::new(area).ok_or(Refusal::CalendarValue)?,
-            direction: Direction::numbered(direction)?,
-            values: Capacity::of_months(values)?,
-            row: RelationRow::NONE,
+            direction: Direction::try_from(direction)?,
+            values: values.try_map(Capacity::try_from)?,
+            row: RelationRow::default(),
         })
     }
 }

@@ -1,11 +1,11 @@
-ghost use Rattle.std.specs.Prelude.{◌≡◌, ◌+◌, ◌^◌, ◌<◌, ◌≤◌, pos, negsuc, ◌≤ℤ◌, IfOk, MatchResult, slice_index, slice_index_or};
-ghost use Rattle.calendar.specs.Figures.{area_of, figures, HasLimit, HasNode, hours as hours_of, limit_figures, limit_of, node_figures, marked, pay_day, price as price_of, value as value_of};
+ghost use Rattle.std.specs.Prelude.{◌≡◌, ◌<◌, IfOk};
+ghost use Rattle.calendar.specs.Figures.{area_of, figures, HasLimit, HasNode, hours as hours_of, limit_of, marked, pay_day, price as price_of, value as value_of};
 ghost use Rattle.calendar.specs.InRange.{InRange};
-ghost use Rattle.calendar.specs.Questions.{Answers};
+ghost use Rattle.calendar.specs.Questions.{Answers, AnswersOne};
 ghost use Rattle.calendar.specs.Values.{IsHours, IsMonth, IsPayDay, IsPrice, IsRow, IsValue};
 
+use super::Calendar;
 use super::doors::month_place;
-use super::{Calendar, Limit, Node};
 use crate::kinds::{Direction, LimitKind};
 use terms::{Area, Refusal};
 
@@ -17,7 +17,7 @@ impl Calendar {
 
     // A node's area.
     pub fn area(&self, node: u32) -> Result<Area, Refusal>
-        ensures { MatchResult result (λ a. HasNode (figures self.now) node × (a.number ≡ area_of (figures self.now) node)) (λ e. (HasNode (figures self.now) node → ⊥) × (e ≡ Refusal.CalendarValue)) }
+        ensures { AnswersOne (HasNode (figures self.now) node) (λ a. a.number ≡ area_of (figures self.now) node) result }
     {
         Ok(self.node(node)?.area)
     }
@@ -28,8 +28,7 @@ impl Calendar {
         ensures range { IfOk result IsPrice }
     {
         let node = self.node(node)?;
-        let place = month_place(month)?;
-        Ok(node.price(place))
+        Ok(node.prices[month_place(month)?].thousandths)
     }
 
     // The hours of a month.
@@ -37,7 +36,7 @@ impl Calendar {
         ensures value { Answers (IsMonth month) (hours_of (figures self.now) month) result }
         ensures range { IfOk result IsHours }
     {
-        Ok(self.month(month)?.hours.count())
+        Ok(self.month(month)?.hours.number)
     }
 
     // The day on which a month's instalments are due.
@@ -45,7 +44,7 @@ impl Calendar {
         ensures value { Answers (IsMonth month) (pay_day (figures self.now) month) result }
         ensures range { IfOk result IsPayDay }
     {
-        Ok(self.month(month)?.pay_day.day())
+        Ok(self.month(month)?.pay_day.number)
     }
 
     // What a limit bounds.
@@ -57,7 +56,7 @@ impl Calendar {
 
     // A limit's area.
     pub fn limit_area(&self, limit: u32) -> Result<Area, Refusal>
-        ensures { MatchResult result (λ a. HasLimit (figures self.now) limit × (a.number ≡ (limit_of (figures self.now) limit).area)) (λ e. (HasLimit (figures self.now) limit → ⊥) × (e ≡ Refusal.CalendarValue)) }
+        ensures { AnswersOne (HasLimit (figures self.now) limit) (λ a. a.number ≡ (limit_of (figures self.now) limit).area) result }
     {
         Ok(self.limit(limit)?.area)
     }
@@ -75,8 +74,7 @@ impl Calendar {
         ensures range { IfOk result IsValue }
     {
         let limit = self.limit(limit)?;
-        let place = month_place(month)?;
-        Ok(limit.value(place))
+        Ok(limit.values[month_place(month)?].number)
     }
 
     // A limit's relation row: bit j is the mark of pair j.
@@ -84,7 +82,7 @@ impl Calendar {
         ensures value { Answers (HasLimit (figures self.now) limit) (limit_of (figures self.now) limit).row result }
         ensures range { IfOk result IsRow }
     {
-        Ok(self.limit(limit)?.row.bits())
+        Ok(self.limit(limit)?.row.bits)
     }
 
     // Whether a limit's row marks a pair.
@@ -96,27 +94,5 @@ impl Calendar {
             return Err(Refusal::CalendarValue);
         }
         Ok(limit.row.mark(pair))
-    }
-}
-
-impl Node {
-    // The price in the month at this place.
-    fn price(self, place: usize) -> i32
-        requires { place < 12 }
-        ensures value { result ≡ slice_index_or (node_figures self).prices place (pos 0) }
-        ensures range { IsPrice result }
-    {
-        self.prices[place].thousandths()
-    }
-}
-
-impl Limit {
-    // The value in the month at this place.
-    fn value(self, place: usize) -> u32
-        requires { place < 12 }
-        ensures value { result ≡ slice_index (limit_figures self).values place }
-        ensures range { IsValue result }
-    {
-        self.values[place].kilowatts()
     }
 }

@@ -1,6 +1,5 @@
 ghost use Rattle.std.specs.Prelude.{◌≡◌, ℕ, ◌≤◌, List, [], ◌++◌, length, IfOk};
-ghost use Rattle.calendar.specs.Figures.{figures};
-ghost use Rattle.book.specs.Market.{market};
+ghost use Rattle.book.specs.Market.{market_of};
 ghost use Rattle.book.specs.Calls.{propose as proposing};
 ghost use Rattle.book.specs.Views.{view};
 ghost use Rattle.demonstration.specs.Runs.{firm, after};
@@ -10,8 +9,9 @@ use super::Fault;
 use crate::{calendar, table};
 use book::Book;
 use flows::{FactorSource, FirmRule, NodeTable, UseRule};
-use report::{Reply, read_submission, write_reply};
+use report::{Accepted, read_submission, write_line};
 use std::alloc::{AllocError, Global};
+use terms::Refusal;
 
 // The book that the program opens, and the cents that holder 0 has in it.
 const BOOK: u32 = 1;
@@ -20,44 +20,41 @@ const DEPOSIT: u64 = 1_000_000_000;
 
 // Firm book 1 over the worked calendar and table, with the deposit of holder 0.
 pub fn firm_book(heap: Global) -> Result<Book<NodeTable, FirmRule>, AllocError>
-    ensures market { IfOk result (λ b. firm_over b.source b.calendar ≡ firm) }
+    ensures market { IfOk result (λ b. firm_over b.basis.source b.basis.calendar ≡ firm) }
     ensures state { IfOk result (λ b. view b.ledger ≡ after firm []) }
 {
-    let mut book = Book::new(BOOK, table(heap)?, FirmRule {}, calendar());
+    let mut book = Book::new(BOOK, table(heap)?, FirmRule, calendar());
     let _ = book.deposit(0, DEPOSIT);
     Ok(book)
 }
 
 // Proposes the words of a submission, strikes the award that comes, and gives the reply to report.
-fn propose_and_strike<S: FactorSource, R: UseRule>(book: &mut Book<S, R>, words: &[u32]) -> Reply
-    ensures { reported (view book.old.ledger).number result ≡ (proposing (market (S.FactorSource.means book.old.source) (R.UseRule.worst book.old.rule) (figures book.old.calendar)) (view book.old.ledger) words.now).answer }
+fn propose_and_strike<S: FactorSource, R: UseRule>(
+    book: &mut Book<S, R>,
+    words: &[u32],
+) -> Result<Accepted, Refusal>
+    ensures { reported (view book.old.ledger).number result ≡ (proposing (market_of S.FactorSource R.UseRule book.old.basis) (view book.old.ledger) words.now).answer }
 {
-    match book.propose(words) {
-        Ok(award) => {
-            let numbers = award.numbers();
-            match book.strike(award) {
-                Ok(()) => Reply::Accepted {
-                    first: numbers.first,
-                    lines: numbers.lines,
-                },
-                Err(_) => unreachable(),
-            }
-        }
-        Err(refusal) => Reply::Refused { refusal },
-    }
+    let award = book.propose(words)?;
+    let numbers = award.numbers();
+    let Ok(()) = book.strike(award) else {
+        unreachable()
+    };
+    Ok(Accepted {
+        first: numbers.first,
+        lines: numbers.lines,
+    })
 }
 
 // The reply of the worked firm book to the bytes of an input.
-fn reply_to(book: &mut Book<NodeTable, FirmRule>, bytes: &[u8]) -> Reply
-    requires market { firm_over book.old.source book.old.calendar ≡ firm }
+fn reply_to(book: &mut Book<NodeTable, FirmRule>, bytes: &[u8]) -> Result<Accepted, Refusal>
+    requires market { firm_over book.old.basis.source book.old.basis.calendar ≡ firm }
     requires state { view book.old.ledger ≡ after firm [] }
     ensures replies { Replies bytes.now result }
     ensures decided { (rest : List ℕ) → 521 ≤ length bytes.now → Replies (bytes.now ++ rest) result }
 {
-    match read_submission(bytes) {
-        Ok(words) => propose_and_strike(book, words.as_slice()),
-        Err(refusal) => Reply::Refused { refusal },
-    }
+    let input = read_submission(bytes)?;
+    propose_and_strike(book, input.as_slice())
 }
 
 // Judges the bytes of an input as a proposal to firm book 1, and writes the line of the reply at the front of `out`;
@@ -68,8 +65,5 @@ pub fn answer(heap: Global, bytes: &[u8], out: &mut [u8]) -> Result<usize, Fault
 {
     let mut book = firm_book(heap)?;
     let reply = reply_to(&mut book, bytes);
-    match write_reply(reply, out) {
-        Ok(len) => Ok(len),
-        Err(_) => Err(Fault::ShortBuffer),
-    }
+    write_line(reply, out).map_err(|_| Fault::ShortBuffer)
 }

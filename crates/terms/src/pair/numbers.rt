@@ -9,7 +9,7 @@ impl Pair {
     pub fn new(injection: Area, withdrawal: Area) -> Option<Pair>
         ensures { MatchOption result (injection.number ≡ withdrawal.number) (λ p. (p.injection ≡ injection) × (p.withdrawal ≡ withdrawal)) }
     {
-        if injection.number() == withdrawal.number() {
+        if injection == withdrawal {
             return None;
         }
         Some(Pair {
@@ -46,7 +46,7 @@ impl Pair {
         5 * (injection - 1) + place
     }
 
-    // The pair of this number, if it is below 30.
+    // The pair of this number, if it is below 30. An Option and no TryFrom, as for an area.
     pub fn numbered(number: u32) -> Option<Pair>
         ensures { MatchOption result (30 ≤ number) (λ p. number_of p ≡ number) }
     {

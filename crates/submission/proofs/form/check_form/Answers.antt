@@ -1,4 +1,4 @@
-use Rattle.std.proofs.Common.{◌+◌, length, get_or, sym, refl, subst, arith, below_more}
+use Rattle.std.proofs.Common.{◌+◌, length, get_or, sym, subst, arith}
 use Rattle.std.proofs.lemmas.Bool.{false≢true}
 use Rattle.submission.specs.Places.{Stands}
 use Rattle.submission.proofs.Forms.{formed_back}
@@ -10,18 +10,14 @@ returns-then-not-may_stand c = (
   c.loop-i.i + 1,
   c.broken_at.ensures,
   breaks_at c.args.words.now c.loop-i.i c.loop-i-test.true c.loop-i.invariant
-      (λ r. false≢true (c.if-not-may_stand.ensures.1 (subst (λ n. Stands n c.loop-i.i (get_or c.args.words.now c.loop-i.i 0)) (sym c.payload_at-lines.ensures.value) r))),
+      (λ r. false≢true (c.if-not-may_stand.ensures.1 (subst (λ n. Stands n c.loop-i.i (get_or c.args.words.now c.loop-i.i 0)) (sym c.line_count-lines.ensures.value) r))),
 )
 
-pub loop-i-preserved : goal.loop-i-preserved
-loop-i-preserved c = below_more _ _ c.loop-i.invariant
-    (subst (λ n. Stands n c.loop-i.i (get_or c.args.words.now c.loop-i.i 0)) c.payload_at-lines.ensures.value (c.if-not-may_stand.ensures.0 refl))
-
 pub returns-then-words-lines : goal.returns-then-words-lines
-returns-then-words-lines c = (length c.args.words.now + 1, c.broken_at-then-words-lines.ensures, breaks_off c.args.words.now (λ k h. c.loop-i.invariant k (omega arith)) (λ e. c.if-words-lines.true (omega (arith, c.payload_at-lines.ensures.value))))
+returns-then-words-lines c = (length c.args.words.now + 1, c.broken_at-then-words-lines.ensures, breaks_off c.args.words.now (λ k h. c.loop-i.invariant k (omega arith)) (λ e. c.if-words-lines.true (omega (arith, c.line_count-lines.ensures.value))))
 
 pub returns : goal.returns
 returns c = formed_back c.args.words.now (record {
-  long = omega (arith, c.payload_at-lines.ensures.value);
+  long = omega (arith, c.line_count-lines.ensures.value);
   each = λ i h. c.loop-i.invariant i (omega arith);
 })

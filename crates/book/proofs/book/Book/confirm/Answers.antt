@@ -1,46 +1,9 @@
-use Rattle.std.proofs.Common.{refl, subst}
-use Rattle.calendar.specs.Figures.{figures}
-use Rattle.book.specs.Market.{market}
-use Rattle.book.specs.declared.award.AwardNumbers.{AwardNumbers}
-use Rattle.book.specs.Calls.{confirm}
+use Rattle.std.proofs.Common.{rules}
 use Rattle.book.specs.Calls.Call.{Confirm}
-use Rattle.book.specs.Calls.Answer.{Confirmed, Refused}
-use Rattle.book.specs.Living.{ComesTo}
-use Rattle.book.specs.Views.{view}
-use Rattle.book.proofs.Worst.{Lawful}
-use Rattle.book.proofs.Lives.{lives_on}
+use Rattle.book.proofs.Lives.{carries_on}
 use Rattle.book.proofs.book.Book.confirm.Goals as goal
 
-pub returns-in-Ok : goal.returns-in-Ok
-returns-in-Ok g c =
-    let me = c.args.self.now in
-    let m = market (g.S.FactorSource.means me.source) (g.R.UseRule.worst me.rule) (figures me.calendar) in
-    let laws : Lawful m (g.R.UseRule.allowed me.rule) = record { ranged = g.met.S.FactorSource.ranged me.source; attained = g.met.R.UseRule.attained me.rule; dominates = g.met.R.UseRule.dominates me.rule } in
-    let b = view me.ledger in
-    let a = c.args.award.numbers in
-    let after = view c.confirm.new.self in
-    let gives = subst (λ (n : AwardNumbers). ComesTo (confirm b n.book n.first n.lines) Confirmed after) c.numbers-numbers.ensures c.in-Ok.ensures.gives in
-    record {
-      fixed = (refl, refl, refl);
-      gives = gives;
-      lived = lives_on m (g.R.UseRule.allowed me.rule) laws b (Confirm a.book a.first a.lines) Confirmed after gives;
-      kept = tt;
-      back = tt;
-    }
-
-pub returns-in-Err : goal.returns-in-Err
-returns-in-Err g c =
-    let me = c.args.self.now in
-    let m = market (g.S.FactorSource.means me.source) (g.R.UseRule.worst me.rule) (figures me.calendar) in
-    let laws : Lawful m (g.R.UseRule.allowed me.rule) = record { ranged = g.met.S.FactorSource.ranged me.source; attained = g.met.R.UseRule.attained me.rule; dominates = g.met.R.UseRule.dominates me.rule } in
-    let b = view me.ledger in
-    let a = c.args.award.numbers in
-    let after = view c.confirm.new.self in
-    let gives = subst (λ (n : AwardNumbers). ComesTo (confirm b n.book n.first n.lines) (Refused c.in-Err.refusal) after) c.numbers-numbers.ensures c.in-Err.ensures.gives in
-    record {
-      fixed = (refl, refl, refl);
-      gives = gives;
-      lived = lives_on m (g.R.UseRule.allowed me.rule) laws b (Confirm a.book a.first a.lines) (Refused c.in-Err.refusal) after gives;
-      kept = c.in-Err.ensures.kept;
-      back = refl;
-    }
+pub returns-clause-lived : goal.returns-clause-lived
+returns-clause-lived g c =
+    carries_on g.S.FactorSource g.R.UseRule g.met.S.FactorSource.ranged g.met.R.UseRule.attained g.met.R.UseRule.dominates
+    c.args.self.now (let a = c.args.award.numbers in Confirm a.book a.first a.lines) _ _ (search rules)

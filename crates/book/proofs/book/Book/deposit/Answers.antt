@@ -1,26 +1,9 @@
-use Rattle.std.proofs.Common.{refl}
-use Rattle.calendar.specs.Figures.{figures}
-use Rattle.book.specs.Market.{market}
-use Rattle.book.specs.Calls.{deposit}
 use Rattle.book.specs.Calls.Call.{Deposit}
 use Rattle.book.specs.Calls.Answer.{Balance}
-use Rattle.book.specs.Living.{answered}
-use Rattle.book.specs.Views.{view}
-use Rattle.book.proofs.Worst.{Lawful}
-use Rattle.book.proofs.Lives.{comes_to, lives_on}
+use Rattle.book.proofs.Lives.{comes_to, carries_on}
 use Rattle.book.proofs.book.Book.deposit.Goals as goal
 
-pub returns : goal.returns
-returns g c =
-    let me = c.args.self.now in
-    let m = market (g.S.FactorSource.means me.source) (g.R.UseRule.worst me.rule) (figures me.calendar) in
-    let laws : Lawful m (g.R.UseRule.allowed me.rule) = record { ranged = g.met.S.FactorSource.ranged me.source; attained = g.met.R.UseRule.attained me.rule; dominates = g.met.R.UseRule.dominates me.rule } in
-    let b = view me.ledger in
-    let after = view c.deposit.new.self in
-    let gives = comes_to Balance (deposit b c.args.holder c.args.amount) c.deposit.result after c.deposit.ensures.gives in
-    record {
-      fixed = (refl, refl, refl);
-      gives = gives;
-      lived = lives_on m (g.R.UseRule.allowed me.rule) laws b (Deposit c.args.holder c.args.amount) (answered Balance c.deposit.result) after gives;
-      kept = c.deposit.ensures.kept;
-    }
+pub returns-clause-lived : goal.returns-clause-lived
+returns-clause-lived g c =
+    carries_on g.S.FactorSource g.R.UseRule g.met.S.FactorSource.ranged g.met.R.UseRule.attained g.met.R.UseRule.dominates
+    c.args.self.now (Deposit c.args.holder c.args.amount) _ _ (comes_to Balance _ c.deposit.result _ c.deposit.ensures.gives)

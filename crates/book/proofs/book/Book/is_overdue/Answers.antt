@@ -3,6 +3,7 @@ use Rattle.std.proofs.lemmas.Bool.{cases_Bool, and_parts, and_left, leb-true}
 use Rattle.calendar.specs.Figures.{figures}
 use Rattle.money.specs.Months.{is_span}
 use Rattle.money.specs.Payments.{overdue}
+use Rattle.book.specs.Rights.{paid_of}
 use Rattle.book.specs.Checks.{overdue_on}
 use Rattle.book.proofs.book.Book.is_overdue.Goals as goal
 
@@ -26,5 +27,6 @@ returns g c =
     let x = c.args.right.now in
     let s = c.in-Some.ensures in
     c.overdue.ensures.value
-    ∙ ap (λ first. overdue (figures me.calendar) x.line.charge x.paid first c.in-Some.months.last me.ledger.day) s.0
-    ∙ ap (λ last. overdue (figures me.calendar) x.line.charge x.paid x.line.first last me.ledger.day) s.1
+    ∙ ap (λ paid. overdue (figures me.basis.calendar) x.line.charge paid c.in-Some.months.first c.in-Some.months.last me.ledger.day) c.paid.ensures
+    ∙ ap (λ first. overdue (figures me.basis.calendar) x.line.charge (paid_of x) first c.in-Some.months.last me.ledger.day) s.0
+    ∙ ap (λ last. overdue (figures me.basis.calendar) x.line.charge (paid_of x) x.line.first last me.ledger.day) s.1

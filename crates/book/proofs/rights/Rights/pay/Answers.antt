@@ -3,18 +3,12 @@ use Rattle.std.proofs.lemmas.List.{drop-set-lt, get_or-take}
 use Rattle.terms.specs.Ranges.{most_power}
 use Rattle.book.specs.declared.right.Right.{Right}
 use Rattle.book.specs.Rows.{empty}
-use Rattle.book.specs.Rights.{debt, paying}
+use Rattle.book.specs.Rights.{paying}
 use Rattle.book.specs.Views.{rights}
 use Rattle.book.proofs.Finds.{paid_at}
 use Rattle.book.proofs.Smalls.{small-set, small_at}
 use Rattle.book.proofs.Tables.{length-rights, take_of_set}
 use Rattle.book.proofs.rights.Rights.pay.Goals as goal
-
-pub paying-requires : goal.paying-requires
-paying-requires c =
-    let me = c.args.self.now in
-    let inside : c.args.at < me.count = omega (arith, length-rights me, c.requires.inside) in
-    subst (λ (r : Right). c.args.amount ≤ debt r) (get_or-take me.count me.rows c.args.at empty inside) c.requires.owed
 
 pub invariant_of-self : goal.invariant_of-self
 invariant_of-self c =

@@ -1,5 +1,4 @@
 use Rattle.std.proofs.Common.{arith, length-set}
-use Rattle.std.proofs.lemmas.List.{take_more_set}
 use Rattle.book.proofs.Smalls.{small-set}
 use Rattle.book.proofs.Tables.{length-rights, behind_push}
 use Rattle.book.proofs.rights.Rights.push.Goals as goal
@@ -8,6 +7,3 @@ pub invariant_of-self : goal.invariant_of-self
 invariant_of-self c =
     let me = c.args.self.now in
     record { full = simp length-set me.full; counted = omega (arith, length-rights me); behind = behind_push me.rows me.count me.full me.behind c.args.right; small = small-set me.rows me.count c.args.right c.requires.small me.small }
-
-pub returns : goal.returns
-returns c = let me = c.args.self.now in take_more_set me.rows me.count c.args.right (omega (arith, me.full, length-rights me))

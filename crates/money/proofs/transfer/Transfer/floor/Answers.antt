@@ -1,38 +1,33 @@
-use Rattle.std.proofs.Common.{◌≡◌, ◌+◌, ◌-◌, pos, ◌+ℤ◌, sym, ap, ◌∙◌, arith, w64, SFits, rules}
+use Rattle.std.proofs.Common.{◌≡◌, ◌+◌, ◌-◌, ◌+ℤ◌, ap, ◌∙◌, arith, w64, SFits, rules}
 use Rattle.std.proofs.lemmas.Int.{ints}
 use Rattle.calendar.specs.Figures.{figures}
-use Rattle.money.specs.Floors.{cut, month_worth, signed_sum}
+use Rattle.money.specs.Floors.{cut, signed_sum}
 use Rattle.money.specs.Months.{month_count}
-use Rattle.money.proofs.Sums.{over_next}
+use Rattle.money.specs.Transfers.{month_worth_of}
+use Rattle.money.proofs.Sums.{summed_next}
 use Rattle.money.proofs.transfer.Transfer.floor.Goals as goal
-
-pub overflow_add-sum : goal.overflow_add-sum
-overflow_add-sum c =
-    let f : SFits w64 c.in_ok-worth.worth = search rules in
-    omega (arith, ints, c.loop-month.invariant.1, c.loop-month.invariant.2)
+use Rattle.money.proofs.transfer.Transfer.floor.Goals.{else-loop-month-test, then-loop-month-test+in_ok-month_worth+else-month-month-end}
 
 pub loop-month-preserved : goal.loop-month-preserved
 loop-month-preserved c =
     let t = c.args.self in
-    let worths = month_worth (figures c.args.calendar.now) t.injection t.withdrawal t.power in
-    let first = t.months.first in
-    let month = c.loop-month.month in
-    let z = c.in_ok-worth.worth in
-    let f : SFits w64 z = search rules in
-    let e : signed_sum worths first (month + 1 - first) ≡ c.loop-month.sum +ℤ z =
-    over_next (λ x y. x +ℤ y) (pos 0) worths first month (omega arith)
-    ∙ ap (λ x. x +ℤ worths month) (sym (sym c.loop-month.sum-is ∙ c.loop-month.invariant.0))
-    ∙ ap (λ x. c.loop-month.sum +ℤ x) (sym c.in_ok-worth.ensures.1) in (
-      omega (arith, ints),
-      omega (arith, ints),
-      omega (arith, ints),
-      λ _. c.in_ok-worth.ensures.0,
-    )
+    let worth = c.in_ok-month_worth.field-0 in
+    let f : SFits w64 worth = search rules in
+    let n = summed_next (month_worth_of (figures c.args.calendar.now) t) t.months.first c.loop-month.month c.loop-month.sum worth (omega arith) f c.in_ok-month_worth.ensures.1 (search rules) in
+    ((omega (arith, ints, n), omega (arith, ints, n), omega (arith, ints, n)), λ _. c.in_ok-month_worth.ensures.0)
 
 pub returns : goal.returns
 returns c =
     let t = c.args.self in
-    let worths = month_worth (figures c.args.calendar.now) t.injection t.withdrawal t.power in
+    let f = month_worth_of (figures c.args.calendar.now) t in
     let first = t.months.first in
-    let s : c.loop-month.month - first ≡ month_count first t.months.last = omega arith in
-    (c.loop-month.invariant.3 (omega arith), c.cut.ensures ∙ ap cut (c.loop-month.invariant.0 ∙ ap (signed_sum worths first) s))
+    elim c.loop-month-test.branch [
+      | else-loop-month-test w ↦ absurd (omega (arith, w.loop-month-test.false))
+      | then-loop-month-test+in_ok-month_worth+else-month-month-end w ↦
+          let worth = w.in_ok-month_worth.field-0 in
+          let fits : SFits w64 worth = search rules in
+          let n = summed_next f first c.loop-month.month c.loop-month.sum worth (omega arith) fits w.in_ok-month_worth.ensures.1 (search rules) in
+          let s : c.loop-month.month + 1 - first ≡ month_count first t.months.last = omega arith in
+          let total : c.loop-month-test.sum ≡ c.loop-month.sum +ℤ worth = omega (arith, ints, w.sum-is, w.from.ensures, n) in
+          (w.in_ok-month_worth.ensures.0, c.cut.ensures ∙ ap cut (c.loop-month-test.sum-is ∙ total ∙ n.0 ∙ ap (signed_sum f first) s))
+    ]
