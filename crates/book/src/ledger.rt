@@ -6,7 +6,7 @@ use terms::HOLDERS;
 
 // The award that is open: its first serial, and how many lines it has.
 // No AwardNumbers: the book's number stands once, in the ledger.
-#[derive(Clone, Copy, Debug, PartialEq, Eq)]
+#[derive(Clone, Copy)]
 pub struct Pending {
     pub first: u32,
     pub lines: u32,

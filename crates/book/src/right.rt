@@ -5,14 +5,14 @@ use submission::Line;
 
 // An Option of what is paid would name neither state.
 // Provisional until the award is confirmed; then in force, with what is paid of the charge, in cents.
-#[derive(Clone, Copy, Debug, PartialEq, Eq)]
+#[derive(Clone, Copy)]
 pub enum Standing {
     Provisional,
     InForce { paid: u64 },
 }
 
 // A right of the book.
-#[derive(Clone, Copy, Debug, PartialEq, Eq)]
+#[derive(Clone, Copy)]
 pub struct Right {
     pub serial: u32,
     pub line: Line,

@@ -44,6 +44,7 @@ impl From<LimitKind> for u32 {
     }
 }
 
+// As for kinds: two types, with numbers of their own.
 impl TryFrom<u32> for Direction {
     type Error = Refusal;
 

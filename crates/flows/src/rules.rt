@@ -38,6 +38,7 @@ impl UseRule for FirmRule {
 #[derive(Clone, Copy, Debug, PartialEq, Eq)]
 pub struct ObligationRule;
 
+// As for the firm rule: each `impl` gives the members of the trait, and both share `flow`.
 impl UseRule for ObligationRule {
     ghost allowed = { λ _ power used. all_of power used };
 

@@ -150,6 +150,7 @@ fn worst_flows(rt: HostRuntime) {
     }
 }
 
+// A right as a limit sees it, with its mark.
 const fn right(
     power: u32,
     injection: u32,

@@ -22,6 +22,7 @@ impl MonthSpan {
         Some(MonthSpan { first, last })
     }
 
+    // Accessors, since the fields are private for the sake of their facts.
     pub fn first(self) -> u32
         ensures { result ≡ self.first }
     {

@@ -16,6 +16,3 @@ pub use ranges::{
 };
 pub use refusal::{Fields, Refusal};
 pub use table::Table;
-
-#[cfg(test)]
-mod tests;

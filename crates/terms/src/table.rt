@@ -14,7 +14,7 @@ pub struct Table<T, const N: usize> {
 
 impl<T: Copy, const N: usize> Copy for Table<T, N> {}
 
-// The derive of Clone refuses a generic struct with a ghost field.
+// By hand: no Clone is derived for a struct over a type that has a ghost field.
 impl<T: Copy, const N: usize> Clone for Table<T, N> {
     ghost is_clone = { λ table copy. copy ≡ table };
 

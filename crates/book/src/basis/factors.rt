@@ -10,7 +10,8 @@ use submission::Line;
 use terms::Refusal;
 
 impl<S: FactorSource, R: UseRule> Basis<S, R> {
-    // Whether the source has a factor for the line at a limit in a month, where the limit counts the line.
+    // Whether the source has a factor for the line at a limit in a month, where the limit counts the line. The place is the line's in its
+    // submission; `flows` refuses by the same name with a place in a list of rights.
     fn check_factor(&self, place: usize, line: &Line, month: u32, limit: u32) -> Result<(), Refusal>
         ensures { result ≡ told (factor_at (market_of S.FactorSource R.UseRule self.now) place line.now month limit) }
     {

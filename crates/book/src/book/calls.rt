@@ -19,6 +19,7 @@ use calendar::Calendar;
 use flows::{FactorSource, UseRule};
 use terms::Refusal;
 
+// Contracts of one shape: each says of its own call what stays, what it answers, what it carries on, and that a refusal leaves the tables.
 impl<S: FactorSource, R: UseRule> Book<S, R> {
     // A book just made over a source, a rule and a calendar: day 0, no rights, nothing on the accounts.
     pub fn new(number: u32, source: S, rule: R, calendar: Calendar) -> Book<S, R>

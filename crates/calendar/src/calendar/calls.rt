@@ -105,7 +105,7 @@ impl Calendar {
 }
 
 impl Limit {
-    // The limit of these numbers, with no marks.
+    // The limit of these numbers, with no marks: kind and direction come as plain numbers, as `add_limit` takes them.
     fn numbered(kind: u32, area: u32, direction: u32, values: [u32; 12]) -> Result<Limit, Refusal>
         ensures { AnswersOne (LimitFits kind area direction values) (λ l. NumberedLimit kind area direction values (limit_figures l)) result }
     {

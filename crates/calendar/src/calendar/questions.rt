@@ -68,7 +68,7 @@ impl Calendar {
         Ok(self.limit(limit)?.direction)
     }
 
-    // A limit's value in a month, in kilowatts.
+    // A limit's value in a month, in kilowatts. It has the shape of `price`, and another figure and range in its contract.
     pub fn value(&self, limit: u32, month: u32) -> Result<u32, Refusal>
         ensures value { Answers (HasLimit (figures self.now) limit × IsMonth month) (value_of (figures self.now) limit month) result }
         ensures range { IfOk result IsValue }

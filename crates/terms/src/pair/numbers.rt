@@ -18,6 +18,7 @@ impl Pair {
         })
     }
 
+    // Accessors, since the fields are private for the sake of their fact.
     pub fn injection(self) -> Area
         ensures { result ≡ self.injection }
     {
