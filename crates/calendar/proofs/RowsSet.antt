@@ -1,6 +1,7 @@
 -- Rows that are set one after another.
-use Rattle.std.proofs.Common.{◌≡◌, ℕ, ◌+◌, ◌-◌, ◌<◌, not, eqb, ◌≢◌, List, map, length, set, ℤ, get_or-set_other, get_or-set_same, sym, refl, ap, ◌∙◌, subst, ⊎_elim, arith}
-use Rattle.std.proofs.lemmas.List.{get_or-map, length-map, map-set, set-get_or}
+use Rattle.std.proofs.Common.{◌≡◌, ℕ, ◌+◌, ◌-◌, ◌<◌, not, eqb, ◌≢◌, List, length, set, ℤ, get_or-set_other, get_or-set_same, sym, refl, ap, ◌∙◌, subst, ⊎_elim, arith}
+use Rattle.std.proofs.Math.Seq.{map-set_same}
+use Rattle.std.proofs.lemmas.List.{length-map}
 use Rattle.std.proofs.lemmas.Bool.{cases_lt}
 use Rattle.calendar.specs.Calls.{rerowed}
 use Rattle.calendar.specs.Figures.{Figures, limit_count, limit_of, numbered}
@@ -14,19 +15,16 @@ module _ (before : Figures) (rs : List Reference) (flows : List ℤ) where
   count_kept n after h = sym (length-map after.limits unmarked) ∙ ap length h.2 ∙ length-map before.limits unmarked
 
   -- the row of one limit more
-  pub rows_more : (n row : ℕ) (after : Figures) → n < limit_count before → RowsSet before rs flows n after → ((pair : ℕ) → pair < 30 → row_mark row pair ≡ not (eqb (pair_flow before rs flows (n + 1) pair) 0)) → RowsSet before rs flows (n + 1) (record after { limits = set after.limits n (rerowed row (limit_of before (n + 1))) })
+  pub rows_more : (n row : ℕ) (after : Figures) → n < limit_count before → RowsSet before rs flows n after → ((pair : ℕ) → pair < 30 → row_mark row pair ≡ not (eqb (pair_flow before rs flows (n + 1) pair) 0)) → RowsSet before rs flows (n + 1) (record after { limits = set after.limits n (rerowed row (limit_of after (n + 1))) })
   rows_more n row after within h marks =
-      let old = before.limits in
       let xs = after.limits in
-      let l = rerowed row (limit_of before (n + 1)) in
+      let l = rerowed row (limit_of after (n + 1)) in
       let d = limit_of before 0 in
       let short : n < length xs = omega (arith, count_kept n after h) in
-      let same : unmarked l ≡ unmarked (limit_of before (n + 1)) = refl in
-      let kept = same ∙ ap unmarked (numbered_place old n (n + 1) d refl) ∙ sym (get_or-map unmarked old n d (unmarked d) within) in
       let Marked : ℕ → ℕ → Type 0 = λ limit pair. row_mark (numbered (set xs n l) limit d).row pair ≡ not (eqb (pair_flow before rs flows limit pair) 0) in (
         h.0,
         h.1,
-        map-set unmarked xs n l ∙ ap (λ ls. set ls n (unmarked l)) h.2 ∙ ap (set (map unmarked old) n) kept ∙ set-get_or (map unmarked old) n (unmarked d),
+        map-set_same unmarked xs n l d (ap unmarked (numbered_place xs n (n + 1) d refl)) ∙ h.2,
         λ limit pair low high below.
             ⊎_elim
             (λ less.

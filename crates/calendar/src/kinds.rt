@@ -5,18 +5,18 @@ ghost use Rattle.calendar.specs.Kinds.{direction_numbered, kind_numbered, number
 
 use terms::Refusal;
 
-// What a limit bounds: flow out of its area, into it, or through it.
+// What a limit bounds: flow out of its area, into it, or through it. Its number is `u32::from`; a cast counts the cases from 0.
 #[derive(Clone, Copy, Debug, PartialEq, Eq)]
 pub enum LimitKind {
-    Export = 1,
+    Export,
     Import,
     Wheeling,
 }
 
-// Which way a limit bounds flow. Areas are numbered from north to south.
+// Which way a limit bounds flow. Areas are numbered from north to south. Its number is `u32::from`, as for kinds.
 #[derive(Clone, Copy, Debug, PartialEq, Eq)]
 pub enum Direction {
-    Southward = 1,
+    Southward,
     Northward,
 }
 
@@ -40,7 +40,7 @@ impl From<LimitKind> for u32 {
     ghost from_gives = { λ kind number. number ≡ number_of_kind kind };
 
     fn from(kind: LimitKind) -> u32 {
-        kind as u32
+        kind as u32 + 1
     }
 }
 
@@ -64,6 +64,6 @@ impl From<Direction> for u32 {
     ghost from_gives = { λ direction number. number ≡ number_of_direction direction };
 
     fn from(direction: Direction) -> u32 {
-        direction as u32
+        direction as u32 + 1
     }
 }

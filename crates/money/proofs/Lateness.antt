@@ -12,6 +12,10 @@ module _ (cal : Figures) (charge paid first last day : ℕ) where
   overdue_span : 1 ≤ first → first ≤ last → last ≤ 12 → some_month (late cal charge paid first last day) first (month_count first last) ≡ overdue cal charge paid first last day
   overdue_span f o l = grind (arith, nat_tests)
 
+  -- over none
+  pub overdue_no_span : ((1 ≤ first) × (first ≤ last) × (last ≤ 12) → ⊥) → overdue cal charge paid first last day ≡ false
+  overdue_no_span n = grind (arith, nat_tests)
+
   -- the month that is late
   late_month : overdue cal charge paid first last day ≡ true → (i : ℕ) × (i < month_count first last) × (0 < lack charge paid first last (first + i)) × (pay_day cal (first + i) < day)
   late_month e =

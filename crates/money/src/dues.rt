@@ -52,15 +52,11 @@ impl Dues {
         ensures month { Decides result (AreOverdue (figures calendar.now) self day) }
         ensures settled { debt_of self ≡ 0 → result ≡ false }
     {
-        (self.months.first()..=self.months.last()).any(|month| self.late(calendar, day, month))
-    }
-
-    // Whether the instalment of a month lacks something and the day is past its pay day.
-    fn late(self, calendar: &Calendar, day: u32, month: u32) -> bool
-        ensures { IsDue self month → result ≡ late_of (figures calendar.now) self day month }
-    {
-        self.instalment(month).is_some_and(|part| part.lacking > 0)
-            && calendar.pay_day(month).is_ok_and(|pay_day| day > pay_day)
+        (self.months.first()..self.months.last() + 1).any(
+            |month|
+                requires { IsDue self month }
+            { DueMonth { dues: self, month }.is_late(calendar, day) },
+        )
     }
 }
 
@@ -83,6 +79,16 @@ impl DueMonth {
             paid,
             lacking: amount - paid,
         }
+    }
+
+    // Whether the instalment lacks something and the day is past its pay day.
+    fn is_late(self, calendar: &Calendar, day: u32) -> bool
+        ensures { result ≡ late_of (figures calendar.now) self.dues day self.month }
+    {
+        self.instalment().lacking > 0
+            && calendar
+                .pay_day(self.month)
+                .is_ok_and(|pay_day| day > pay_day)
     }
 
     // The whole quotient, and a cent more in the lowest months until the remainder is used.

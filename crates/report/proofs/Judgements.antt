@@ -6,11 +6,10 @@ use Rattle.std.proofs.lemmas.Bool.{cases_lt}
 use Rattle.std.specs.Prelude.{Result}
 use Rattle.terms.specs.declared.refusal.Refusal.{Refusal}
 use Rattle.terms.specs.declared.refusal.Refusal.TheVariants.{Form}
-use Rattle.submission.specs.Submissions.{Submission, Begins, Sound, RefusedForm}
+use Rattle.submission.specs.Submissions.{Submission, Begins, Sound, RefusedForm, decode}
 use Rattle.submission.proofs.Lines.{length-encode}
-use Rattle.report.specs.declared.input.InputWords.{InputWords}
-use Rattle.report.specs.Inputs.{whole_words, Accepted, RefusedBytes}
-use Rattle.report.specs.Readings.{ReadAs, ReadDecided}
+use Rattle.report.specs.declared.outcome.WellFormed.{WellFormed}
+use Rattle.report.specs.Inputs.{whole_words, Accepted, RefusedBytes, Judged, Decided}
 use Rattle.report.proofs.Bytes.{length-words, words_front}
 
 -- a submission has at most 130 words, and so have words that begin one
@@ -25,7 +24,7 @@ submission_short : (ws : List ℕ) → Submission ws → length ws ≤ 130
 submission_short ws s = begins_short ws (begins_whole ws s)
 
 -- 521 bytes are no submission
-too_long : (bs : List ℕ) → 521 ≤ length bs → Accepted bs → ⊥
+pub too_long : (bs : List ℕ) → 521 ≤ length bs → Accepted bs → ⊥
 too_long bs h a = omega (arith, a.0, submission_short (whole_words bs) a.1, length-words bs)
 
 -- words behind the first 130 change nothing
@@ -43,9 +42,9 @@ sound_front ws more n h s =
     }
 
 -- 521 bytes decide
-pub read_decided : (bs : List ℕ) (r : Result InputWords Refusal) → ReadAs bs r → ReadDecided bs r
-read_decided bs (Ok w) a rest h = absurd (too_long bs h a.0)
-read_decided bs (Err e) (p, is, b) rest h =
+pub decided : (bs : List ℕ) (r : Result WellFormed Refusal) → Judged bs r → Decided bs r
+decided bs (Ok form) a rest h = absurd (too_long bs h a.0)
+decided bs (Err e) (p, is, b) rest h =
     let w = words_front bs rest in (
       p,
       is,
@@ -95,6 +94,13 @@ module _ (bs vs : List ℕ) (cut : vs ≡ take 130 (whole_words bs)) where
       });
     },
   )
+
+  -- what is accepted was read whole
+  pub all_read : Accepted bs → vs ≡ ws
+  all_read a = every (submission_short ws a.1)
+
+  pub all_counted : (n : ℕ) → Accepted bs → n ≡ length (decode ws) → n ≡ length (decode vs)
+  all_counted n a e = e ∙ ap (λ ws. length (decode ws)) (sym (all_read a))
 
   pub whole : Submission vs → length bs ≤ 4 * length vs → Accepted bs × (vs ≡ ws)
   whole s all =

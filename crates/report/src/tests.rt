@@ -1,4 +1,8 @@
+ghost use Rattle.std.specs.Prelude.{None};
+
 use crate::{Accepted, LONGEST_LINE, answer, read_input, read_submission, write_line};
+use std::io;
+use std::io::{ErrorKind, Read};
 use std::test::Fail;
 use terms::Refusal;
 
@@ -88,4 +92,28 @@ fn inputs_up_to_the_bytes_that_decide(rt: HostRuntime) -> Result<(), Fail> {
     assert!(rt; read_input(WORKED)?.as_slice() == WORKED);
     assert!(rt; read_input(&[0x10; 522][..])?.as_slice() == &[0x10; 521][..]);
     Ok(())
+}
+
+// A reader that is interrupted once, and then at its end.
+#[derive(Drop)]
+struct Interrupted {
+    yet: bool,
+}
+
+impl Read for Interrupted {
+    ghost remaining = { λ _. None };
+
+    fn read(&mut self, _buffer: &mut [u8]) -> io::Result<usize> {
+        if self.yet {
+            return Ok(0);
+        }
+        self.yet = true;
+        Err(io::Error::from(ErrorKind::Interrupted))
+    }
+}
+
+#[test]
+fn an_interrupted_read_fails(rt: HostRuntime) {
+    let read = read_input(Interrupted { yet: false });
+    assert!(rt; read.is_err_and(|error| error.kind() == ErrorKind::Interrupted));
 }

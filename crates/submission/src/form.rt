@@ -3,20 +3,8 @@ ghost use Rattle.submission.specs.Words.{payload as payload_of};
 ghost use Rattle.submission.specs.Places.{Stands};
 ghost use Rattle.submission.specs.Submissions.{Submission, RefusedForm};
 
-use crate::words::{Kind, payload};
+use crate::words::{Kind, PAYLOADS, payload};
 use terms::{MOST_LINES, Refusal};
-
-// The kinds of a line's eight words, in their order.
-const LINE_KINDS: [Kind; 8] = [
-    Kind::Holder,
-    Kind::Nodes,
-    Kind::Months,
-    Kind::Power,
-    Kind::OfferHigh,
-    Kind::OfferLow,
-    Kind::ChargeHigh,
-    Kind::ChargeLow,
-];
 
 // Whether `word` may stand at the index `at` of a submission of `lines` lines.
 fn may_stand(lines: u32, at: usize, word: u32) -> bool
@@ -24,13 +12,17 @@ fn may_stand(lines: u32, at: usize, word: u32) -> bool
     ensures { Decides result (Stands lines at word) }
 {
     let count = payload(word) as usize;
-    let closing = 8 * lines as usize + 1;
     if at == 0 {
-        Kind::Opening.is_of(word) && (1..=MOST_LINES).contains(&count)
-    } else if at < closing {
-        LINE_KINDS[(at - 1) % 8].is_of(word)
+        return Kind::Opening.is_of(word) && (1..=MOST_LINES).contains(&count);
+    }
+    // Counted from behind the opening word.
+    let inner = at - 1;
+    let end = 8 * lines as usize;
+    if inner < end {
+        // The kinds of a line's eight words follow one another, from the holder's on.
+        (word / PAYLOADS) as usize == u32::from(Kind::Holder) as usize + inner % 8
     } else {
-        at == closing && Kind::Closing.is_of(word) && count == at
+        inner == end && Kind::Closing.is_of(word) && count == at
     }
 }
 

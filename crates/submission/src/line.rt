@@ -78,16 +78,18 @@ impl From<[u32; 8]> for Line {
             offer_low,
             charge_high,
             charge_low,
-        ] = words.map(payload);
+        ] = words;
+        let nodes = payload(nodes);
+        let months = payload(months);
         Line {
-            holder,
+            holder: payload(holder),
             injection: nodes / NODES,
             withdrawal: nodes % NODES,
             first: months / MONTHS,
             last: months % MONTHS,
-            power,
-            offer: amount(offer_high, offer_low),
-            charge: amount(charge_high, charge_low),
+            power: payload(power),
+            offer: amount(payload(offer_high), payload(offer_low)),
+            charge: amount(payload(charge_high), payload(charge_low)),
         }
     }
 }

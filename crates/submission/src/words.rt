@@ -1,11 +1,11 @@
-ghost use Rattle.std.specs.Prelude.{◌≡◌, ◌+◌, ◌*◌, ◌/◌, ◌%◌, ◌^◌, ◌<◌, Decides, MatchOption};
+ghost use Rattle.std.specs.Prelude.{◌≡◌, ◌+◌, ◌*◌, ◌/◌, ◌%◌, ◌^◌, ◌<◌, Decides};
 ghost use Rattle.submission.specs.Words.{word as word_of, kind as kind_of, payload as payload_of, kind_number};
 
 // The payload of a word has 28 bits.
 pub(crate) const PAYLOADS: u32 = 1 << 28;
 
 // What a word says: its top four bits.
-#[derive(Clone, Copy, Debug, PartialEq, Eq)]
+#[derive(Clone, Copy)]
 pub(crate) enum Kind {
     // How many lines follow.
     Opening = 1,
@@ -33,30 +33,11 @@ impl From<Kind> for u32 {
 }
 
 impl Kind {
-    // The kind of a word, if its top four bits are one. The numbers are the format's; a word of no kind is no error here, so this is no TryFrom.
-    pub(crate) fn of(word: u32) -> Option<Kind>
-        ensures { MatchOption result ((k : Kind) → kind_number k ≡ kind_of word → ⊥) (λ k. kind_number k ≡ kind_of word) }
-    {
-        match word / PAYLOADS {
-            1 => Some(Kind::Opening),
-            2 => Some(Kind::Holder),
-            3 => Some(Kind::Nodes),
-            4 => Some(Kind::Months),
-            5 => Some(Kind::Power),
-            6 => Some(Kind::OfferHigh),
-            7 => Some(Kind::OfferLow),
-            8 => Some(Kind::ChargeHigh),
-            9 => Some(Kind::ChargeLow),
-            15 => Some(Kind::Closing),
-            _ => None,
-        }
-    }
-
     // Whether a word is of this kind.
     pub(crate) fn is_of(self, word: u32) -> bool
         ensures { Decides result (kind_of word ≡ kind_number self) }
     {
-        Kind::of(word) == Some(self)
+        word / PAYLOADS == u32::from(self)
     }
 
     // The word of this kind with a payload.

@@ -1,7 +1,8 @@
-ghost use Rattle.std.specs.Prelude.{◌≡◌};
+ghost use Rattle.std.specs.Prelude.{◌≡◌, ℕ, map, slice_index};
 ghost use Rattle.calendar.specs.Figures.{figures, limit_figures};
 ghost use Rattle.calendar.specs.Calls.{AddsLimit, AddsNode, empty_figures, LimitFits, NumberedLimit, SetsHours, SetsPayDay, SetsPrice, SetsRelation};
 ghost use Rattle.calendar.specs.Questions.{AnswersOne};
+ghost use Rattle.calendar.specs.Values.{IsValue};
 
 use super::doors::month_place;
 use super::{Calendar, Limit, Month, Node};
@@ -113,8 +114,19 @@ impl Limit {
             kind: LimitKind::try_from(kind)?,
             area: Area::new(area).ok_or(Refusal::CalendarValue)?,
             direction: Direction::try_from(direction)?,
-            values: values.try_map(Capacity::try_from)?,
+            values: capacities(values)?,
             row: RelationRow::default(),
         })
     }
+}
+
+// These values, as what a limit lets pass. By a loop: `try_map` is several times slower.
+fn capacities(values: [u32; 12]) -> Result<[Capacity; 12], Refusal>
+    ensures { AnswersOne ((k : ℕ) → IsValue (slice_index values k)) (λ cs. map (λ c. c.number) cs ≡ values) result }
+{
+    let mut capacities = [Capacity::default(); 12];
+    for (place, value) in values.iter().enumerate() {
+        capacities[place] = Capacity::try_from(*value)?;
+    }
+    Ok(capacities)
 }

@@ -47,12 +47,12 @@ impl Calendar {
     pub fn build_matrix(&mut self, references: &[Reference], flows: &[i32]) -> Result<(), Refusal>
         ensures { BuildsMatrix self.old references.now flows.now result self.new }
     {
-        let before = *self;
-        let study = Study::new(&before, references, flows)?;
+        let study = Study::new(self, references, flows)?;
         study.check_strays()?;
-        for (at, limit) in before.limits.as_slice().iter().enumerate() {
-            let row = study.row(at);
-            self.limits.set(at, Limit { row, ..*limit }).unwrap();
+        let rows = study.rows();
+        for (at, row) in rows.as_slice().iter().enumerate() {
+            let limit = self.limits.as_slice()[at];
+            self.limits.set(at, Limit { row: *row, ..limit }).unwrap();
         }
         Ok(())
     }

@@ -1,12 +1,13 @@
-ghost use Rattle.std.specs.Prelude.{◌≡◌, ℕ, ◌+◌, ◌<◌, not, length, MatchResult, ◌==◌};
+ghost use Rattle.std.specs.Prelude.{◌≡◌, ℕ, ◌+◌, ◌<◌, not, length, MatchResult, ◌==◌, slice_index_or};
+ghost use Rattle.terms.specs.Tables.{held};
 ghost use Rattle.calendar.specs.Rows.{row_mark};
 ghost use Rattle.calendar.specs.Figures.{figures, limit_count};
 ghost use Rattle.calendar.specs.Matrix.{FirstStray, flow_at, GoodReferences, NoStray, pair_flow};
 
-use super::Calendar;
+use super::{Calendar, LIMITS};
 use crate::parts::RelationRow;
 use crate::reference::Reference;
-use terms::Refusal;
+use terms::{Refusal, Table};
 
 // What a matrix is built from: a calendar, and reference rights with the flow of each at every limit in turn, in kilowatts.
 #[derive(Clone, Copy)]
@@ -83,7 +84,7 @@ impl<'a> Study<'a> {
     }
 
     // The marks of the limit at a place: the pairs that have flow there.
-    pub(super) fn row(&self, at: usize) -> RelationRow
+    fn row(&self, at: usize) -> RelationRow
         requires { at < limit_count (figures self.now.calendar.now) }
         ensures { (pair : ℕ) → pair < 30 → row_mark result.bits pair ≡ not (pair_flow (figures self.now.calendar.now) self.now.references.now self.now.flows.now (at + 1) pair == 0) }
     {
@@ -94,5 +95,17 @@ impl<'a> Study<'a> {
             }
         }
         row
+    }
+
+    // The marks of every limit in turn.
+    pub(super) fn rows(&self) -> Table<RelationRow, LIMITS>
+        ensures count { length (held result) ≡ limit_count (figures self.now.calendar.now) }
+        ensures marks { (at pair : ℕ) (none : RelationRow) → at < length (held result) → pair < 30 → row_mark (slice_index_or (held result) at none).bits pair ≡ not (pair_flow (figures self.now.calendar.now) self.now.references.now self.now.flows.now (at + 1) pair == 0) }
+    {
+        let mut rows = Table::new(RelationRow::default());
+        for at in 0..self.calendar.limits.len() {
+            rows.push(self.row(at)).unwrap();
+        }
+        rows
     }
 }

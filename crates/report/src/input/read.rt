@@ -1,5 +1,5 @@
 ghost use Rattle.std.specs.Prelude.{◌≡◌, take, IfSome, IfOk};
-ghost use Rattle.report.specs.Inputs.{WordsJudged, Judged, Decided};
+ghost use Rattle.report.specs.Inputs.{whole_words, WordsJudged, Judged, Decided};
 ghost use Rattle.report.specs.Readings.{words_in, FrontOf, ReadAs, ReadDecided};
 
 use super::{DECIDING_BYTES, InputWords, MOST_WORDS};
@@ -18,12 +18,21 @@ impl InputWords {
     }
 }
 
-// The bytes of an input that decide: all, or the first `DECIDING_BYTES`.
+// The bytes of an input that decide: all, or the first `DECIDING_BYTES`. A read that fails, an interrupted one too, ends it.
 pub fn read_input<R: Read + Drop>(input: R) -> io::Result<ArrayVec<u8, DECIDING_BYTES>>
     ensures { IfOk result (λ bytes. IfSome (R.remaining input) (λ all. bytes.items ≡ take DECIDING_BYTES all)) }
 {
+    let mut input = input;
     let mut bytes = ArrayVec::new();
-    io::copy(&mut input.take(DECIDING_BYTES as u64), &mut bytes)?;
+    let mut part = [0; DECIDING_BYTES];
+    // By `read`, since `io::copy` tries an interrupted read again.
+    while !bytes.is_full() {
+        let count = input.read(&mut part[..bytes.remaining_capacity()])?;
+        if count == 0 {
+            break;
+        }
+        bytes.try_extend_from_slice(&part[..count]).unwrap();
+    }
     Ok(bytes)
 }
 
@@ -34,12 +43,7 @@ pub fn read_submission(bytes: &[u8]) -> Result<InputWords, Refusal>
     ensures decided { ReadDecided bytes.now result }
 {
     let words = front(bytes);
-    let form = form_of(words.as_slice())?;
-    if bytes.len() > 4 * words.len() {
-        return Err(Refusal::Form {
-            place: words.len() + 1,
-        });
-    }
+    let form = form_in(bytes, words.as_slice())?;
     Ok(InputWords { words, form })
 }
 
@@ -48,7 +52,7 @@ pub fn judge(bytes: &[u8]) -> Result<WellFormed, Refusal>
     ensures judged { Judged bytes.now result }
     ensures decided { Decided bytes.now result }
 {
-    read_submission(bytes).map(|input| input.form)
+    form_in(bytes, read_words(bytes, &mut [0; MOST_WORDS]))
 }
 
 // The whole words at the front of the bytes, as many as the longest submission has.
@@ -56,13 +60,38 @@ fn front(bytes: &[u8]) -> Table<u32, MOST_WORDS>
     ensures { FrontOf bytes.now result }
 {
     let mut words = Table::new(0);
-    let (fours, _) = bytes.as_chunks();
-    for four in fours {
-        if words.push(u32::from_be_bytes(*four)).is_err() {
-            break;
-        }
+    for &word in read_words(bytes, &mut [0; MOST_WORDS]) {
+        words.push(word).unwrap();
     }
     words
+}
+
+// The same in an array, which is filled faster: each push of a table counts.
+fn read_words<'a>(bytes: &[u8], words: &'a mut [u32; MOST_WORDS]) -> &'a [u32]
+    ensures { result.now ≡ take 130 (whole_words bytes.now) }
+{
+    let (fours, _) = bytes.as_chunks();
+    let count = MOST_WORDS.min(fours.len());
+    // By index, since a word stands where its four bytes do.
+    for i in 0..count {
+        words[i] = u32::from_be_bytes(fours[i]);
+    }
+    &words[..count]
+}
+
+// The form of the bytes, at whose front these whole words stand.
+fn form_in(bytes: &[u8], words: &[u32]) -> Result<WellFormed, Refusal>
+    requires { words.now ≡ take 130 (whole_words bytes.now) }
+    ensures judged { Judged bytes.now result }
+    ensures decided { Decided bytes.now result }
+{
+    let form = form_of(words)?;
+    if bytes.len() > 4 * words.len() {
+        return Err(Refusal::Form {
+            place: words.len() + 1,
+        });
+    }
+    Ok(form)
 }
 
 // The form of whole words.

@@ -3,4 +3,4 @@ use Rattle.calendar.specs.Matrix.{RowsSet}
 use Rattle.calendar.proofs.calendar.Calendar.build_matrix.Given as goal
 
 abbrev pub invariant-loop-at : goal.invariant-loop-at
-invariant-loop-at l = RowsSet (figures l.study.calendar.now) l.study.references.now l.study.flows.now l.at (figures l.self)
+invariant-loop-at l = RowsSet (figures l.fn.self) l.references l.flows l.at (figures l.self)

@@ -1,7 +1,6 @@
-use Rattle.std.proofs.Common.{◌≡◌, map, take}
-use Rattle.std.specs.Int.{w32, from_be_bytes}
+use Rattle.std.proofs.Common.{◌≡◌, take}
 use Rattle.terms.specs.Tables.{held}
 use Rattle.report.proofs.input.read.front.Given as goal
 
-abbrev pub invariant-loop-four : goal.invariant-loop-four
-invariant-loop-four l = held l.words ≡ map (from_be_bytes w32) (take l.four-index l.fours)
+abbrev pub invariant-loop-word : goal.invariant-loop-word
+invariant-loop-word l = held l.words ≡ take l.word-index l.word-items
